@@ -1,0 +1,3 @@
+-- The demonstration policy text, and the cases marked K in document 01.
+pub mod Demonstration
+pub mod Cases

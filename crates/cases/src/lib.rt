@@ -1,0 +1,1 @@
+// Document 01's marked cases, as theorems about the definitions.

@@ -1,0 +1,21 @@
+-- In reading order. What a policy is:
+-- the limits of a head, what a rule asks of a policy, what a partition may reach, the schedule, chains of flow lines.
+pub mod Below
+pub mod Limits
+pub mod View
+pub mod Access
+pub mod Schedule
+pub mod Chain
+-- The rules for a line, 3 to 5, and for the whole policy, 6 to 8.
+pub mod Order
+pub mod Range
+pub mod Clash
+pub mod Whole
+-- The record, and the reading of a text into it.
+pub mod Record
+pub mod Draft
+pub mod Refusals
+pub mod Read
+-- Which records are sound, the test that decides it, and what it gives.
+pub mod Sound
+pub mod Lawful

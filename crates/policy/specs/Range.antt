@@ -1,0 +1,33 @@
+-- 01, refusal 4: "more than 32 segments, 8 partitions or 32 slots; a length or tick count out of range; base + length over 16,384;
+-- a partition or segment named that isn't there".
+use Prim.Native.Nat.{ℕ, _+_}
+use mathlib.Core.Bool.{Bool, false, _&&_, _||_, not}
+use lib.Dec.{eqb, leb, ltb}
+use Rattle.text.specs.declared.line.Line.{Line}
+use Rattle.text.specs.declared.line.Line.the-variants.{Bad, Segment, Partition, Right, Flow, Slot}
+use Rattle.policy.specs.Limits.{Limits, longestSegment, mostTicks}
+use Rattle.policy.specs.View.{View}
+
+-- Whether a count would pass its limit by one more.
+abbrev pub isFull : ℕ → ℕ → Bool
+isFull limit count = leb limit count
+
+abbrev pub noSegment : View → ℕ → Bool
+noSegment v s = leb (v .segments) s
+
+abbrev pub noPartition : View → ℕ → Bool
+noPartition v p = leb (v .partitions) p
+
+abbrev pub outside : ℕ → ℕ → ℕ → Bool
+outside least most n = ltb n least || ltb most n
+
+unfoldable pub outOfRange : Limits → View → Line → Bool
+outOfRange limits v Bad = false
+outOfRange limits v (Segment id base size) =
+    isFull (limits .segments) (v .segments) || outside 1 longestSegment size || ltb (limits .memory) (base + size)
+outOfRange limits v (Partition id code save) =
+    isFull (limits .partitions) (v .partitions) || noSegment v code || noSegment v save
+outOfRange limits v (Right partition segment mode) = noPartition v partition || noSegment v segment
+outOfRange limits v (Flow from to) = noSegment v from || noSegment v to
+outOfRange limits v (Slot partition ticks) =
+    isFull (limits .slots) (v .slots) || noPartition v partition || outside 1 mostTicks ticks
