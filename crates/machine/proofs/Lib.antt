@@ -1,0 +1,4 @@
+-- What a tick may touch, once for every instruction, and from it the separation of one tick.
+pub mod Laws
+pub mod Touch
+pub mod OneTick

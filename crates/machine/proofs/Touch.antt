@@ -1,0 +1,108 @@
+-- Law B: the effect gives save bytes of their size, and writes only into a segment with a w line, inside it. The one law that goes by the kind
+-- of instruction.
+use Prim.Native.Nat.{ℕ, _+_, _%_, _≤_, _<_}
+use native.Mathlib.Omega.{arith}
+use mathlib.Core.Path.{_≡_, refl, sym, _∙_}
+use mathlib.Core.Bool.{Bool, true, false}
+use mathlib.Core.List.{List, [], _∷_}
+use lib.Dec.{ltb, eqb}
+use lib.ListN.{length, getD, set, length-set}
+use borrow.Author.Tests.{ltb-true}
+use Rattle.machine.specs.declared.Instr.{Instr}
+use Rattle.machine.specs.declared.Instr.the-variants.{Halt, Set, Add, Sub, And, Xor, Shift, Load, Store, Jump, Wait, Listen, Back}
+use Rattle.machine.specs.declared.Decoded.{Decoded}
+use Rattle.machine.specs.declared.Decoded.the-variants.{Runs, Bad}
+use Rattle.machine.specs.declared.Fault.{Fault}
+use Rattle.machine.specs.declared.Fault.the-variants.{CounterOver, BadInstruction, NoRight, OffsetOver, WrongHandler}
+use Rattle.machine.specs.Bytes.{half, withHalf, withWord}
+use Rattle.machine.specs.Save.{register, counter, inHandler}
+use Rattle.machine.specs.Faults.{faults}
+use Rattle.machine.specs.Decode.{fetched}
+use Rattle.machine.specs.Local.{advanced, resulted, halts, setsRegister, adds, subtracts, ands, xors, shifts, jumps, waits, listens, comesBack, takesInterrupt, entered, interrupted, isReady}
+use Rattle.machine.specs.Tick.{Seat, Sees, Effect, none, saves, stores, mayLoad, mayStore, loads, storesByte, acts, obeys, steps, effect}
+use Rattle.machine.proofs.Laws.Tests.{cond-both}
+
+abbrev Long : List ℕ → Type 0
+Long bytes = length bytes ≡ 44
+
+-- What a tick may touch.
+abbrev pub Touches : Seat → Effect → Type 0
+Touches S none = Unit
+Touches S (saves bytes) = Long bytes
+Touches S (stores bytes s at written) = Long bytes × (mayStore S s ≡ true) × (at + length written ≤ S .size s)
+
+length-half : (s : List ℕ) (at n : ℕ) → length (withHalf s at n) ≡ length s
+unfolding withHalf
+length-half s at n = simp length-set
+
+length-put : (s : List ℕ) (i n : ℕ) → length (set s i n) ≡ length s
+length-put s i n = length-set s i n
+
+length-advanced : (s : List ℕ) → length (advanced s) ≡ length s
+unfolding advanced withHalf
+length-advanced s = simp length-set
+
+length-resulted : (s : List ℕ) (r n : ℕ) → length (resulted s r n) ≡ length s
+unfolding resulted advanced withHalf withWord
+length-resulted s r n = simp length-set
+
+length-faults : (s : List ℕ) (f : Fault) → length (faults s f) ≡ length s
+unfolding faults
+length-faults s f = simp length-set
+
+length-interrupted : (s : List ℕ) → length (interrupted s) ≡ length s
+unfolding interrupted entered withHalf withWord
+length-interrupted s = simp length-set
+
+module _ (S : Seat) where
+  loads-long : (s : List ℕ) (look : ℕ → List ℕ) (a b c : ℕ) → Long s → Long (loads S s look a b c)
+  unfolding loads
+  loads-long s look a b c h =
+      cond-both Long (mayLoad S c)
+      (λ _. cond-both Long (ltb (register s b) (S .size c)) (λ _. length-resulted s a _ ∙ h) (length-faults s OffsetOver ∙ h))
+      (length-faults s NoRight ∙ h)
+
+  stores-touches : (s : List ℕ) (a b c : ℕ) → Long s → Touches S (storesByte S s a b c)
+  unfolding storesByte
+  stores-touches s a b c h =
+      cond-both (Touches S) (mayStore S c)
+      (λ w. cond-both (Touches S) (ltb (register s b) (S .size c))
+      (λ l. (length-advanced s ∙ h, w, omega (arith, ltb-true (register s b) (S .size c) l)))
+      (length-faults s OffsetOver ∙ h))
+      (length-faults s NoRight ∙ h)
+
+  acts-touches : (s : List ℕ) (look : ℕ → List ℕ) (i : Instr) → Long s → Touches S (acts S s look i)
+  unfolding acts halts setsRegister adds subtracts ands xors shifts jumps waits listens comesBack
+  acts-touches s look Halt h = length-put s 34 1 ∙ h
+  acts-touches s look (Set a n) h = length-resulted s a n ∙ h
+  acts-touches s look (Add a b c) h = length-resulted s a _ ∙ h
+  acts-touches s look (Sub a b c) h = length-resulted s a _ ∙ h
+  acts-touches s look (And a b c) h = length-resulted s a _ ∙ h
+  acts-touches s look (Xor a b c) h = length-resulted s a _ ∙ h
+  acts-touches s look (Shift a b c) h = length-resulted s a _ ∙ h
+  acts-touches s look (Load a b c) h = loads-long s look a b c h
+  acts-touches s look (Store a b c) h = stores-touches s a b c h
+  acts-touches s look (Jump a n) h =
+      cond-both Long (eqb (register s a) 0) (λ _. length-advanced s ∙ h) (length-half s 32 n ∙ h)
+  acts-touches s look Wait h =
+      cond-both Long (inHandler s) (λ _. length-faults s WrongHandler ∙ h) (length-put (advanced s) 34 3 ∙ length-advanced s ∙ h)
+  acts-touches s look (Listen a n) h = length-advanced _ ∙ length-half _ 40 n ∙ length-put s 37 a ∙ h
+  acts-touches s look Back h =
+      cond-both Long (inHandler s)
+      (λ _. length-put (withHalf s 32 (half s 38)) 42 0 ∙ length-half s 32 (half s 38) ∙ h)
+      (length-faults s WrongHandler ∙ h)
+
+  obeys-touches : (s : List ℕ) (look : ℕ → List ℕ) (d : Decoded) → Long s → Touches S (obeys S s look d)
+  unfolding obeys
+  obeys-touches s look (Runs i) h = acts-touches s look i h
+  obeys-touches s look Bad h = length-faults s BadInstruction ∙ h
+
+  pub effect-touches : (codeSize : ℕ) (x : Sees) → Long (x .saved) → Touches S (effect S codeSize x)
+  unfolding effect steps
+  effect-touches codeSize x h =
+      cond-both (Touches S) (takesInterrupt (x .saved)) (λ _. length-interrupted (x .saved) ∙ h)
+      (cond-both (Touches S) (isReady (x .saved))
+      (λ _. cond-both (Touches S) (ltb codeSize (counter (x .saved) + 4))
+      (λ _. length-faults (x .saved) CounterOver ∙ h)
+      (obeys-touches (x .saved) (x .look) (fetched (x .code) (counter (x .saved))) h))
+      tt)

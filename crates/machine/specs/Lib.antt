@@ -1,0 +1,11 @@
+-- In reading order: numbers in bytes, the save segment, instructions, one tick as an effect, the schedule place, and the machine
+-- in the names of source document 003.
+pub mod Bytes
+pub mod Layout
+pub mod Save
+pub mod Faults
+pub mod Decode
+pub mod Local
+pub mod Tick
+pub mod Place
+pub mod Machine

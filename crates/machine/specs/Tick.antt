@@ -1,0 +1,125 @@
+-- 01, "A tick": one tick is an effect, worked out from what the current partition sees and from nothing else, and put into memory.
+use Prim.Native.Nat.{ℕ, _+_, _*_, _%_, _≤_, _<_}
+use mathlib.Core.Path.{_≡_}
+use mathlib.Core.Bool.{Bool, _&&_, _||_, cond}
+use mathlib.Core.List.{List, [], _∷_}
+use lib.ListN.{length, getD}
+use lib.Dec.{ltb}
+use lib.Seq.{sets}
+use Rattle.machine.specs.declared.Instr.{Instr}
+use Rattle.machine.specs.declared.Instr.the-variants.{Halt, Set, Add, Sub, And, Xor, Shift, Load, Store, Jump, Wait, Listen, Back}
+use Rattle.machine.specs.declared.Decoded.{Decoded}
+use Rattle.machine.specs.declared.Decoded.the-variants.{Runs, Bad}
+use Rattle.machine.specs.declared.Fault.the-variants.{CounterOver, BadInstruction, NoRight, OffsetOver}
+use Rattle.machine.specs.Bytes.{part, withPart}
+use Rattle.machine.specs.Layout.{layout}
+use Rattle.machine.specs.Save.{register, counter}
+use Rattle.machine.specs.Faults.{faults}
+use Rattle.machine.specs.Decode.{fetched}
+use Rattle.machine.specs.Local.{advanced, resulted, halts, setsRegister, adds, subtracts, ands, xors, shifts, jumps, waits, listens, comesBack, takesInterrupt, interrupted, isReady}
+
+-- What a tick asks of the policy: the segments, and on which of them a line gives the current partition r or w.
+pub record Seat : Type 0 where
+  pub segments : ℕ
+  pub base : ℕ → ℕ
+  pub size : ℕ → ℕ
+  pub reads : ℕ → Bool
+  pub writes : ℕ → Bool
+
+-- What the current partition sees: its save bytes, its code bytes, and by segment what a load sees.
+pub record Sees : Type 0 where
+  pub saved : List ℕ
+  pub code : List ℕ
+  pub look : ℕ → List ℕ
+
+-- What a tick does: nothing; new save bytes; new save bytes, and bytes from an offset of a segment on.
+pub data Effect : Type 0 where
+  none : Effect
+  saves : List ℕ → Effect
+  stores : List ℕ → ℕ → ℕ → List ℕ → Effect
+
+-- Whether segment c is there, and a line gives the right. "(save segments never have one)"
+unfoldable pub reaches : ℕ → Bool → ℕ → Bool
+reaches segments given c = ltb c segments && given
+
+module _ (S : Seat) where
+  -- The bytes of a segment.
+  abbrev pub select : ℕ → List ℕ → List ℕ
+  select s memory = part memory (S .base s) (S .size s)
+
+  abbrev pub mayLoad : ℕ → Bool
+  mayLoad c = reaches (S .segments) (S .reads c) c
+
+  abbrev pub mayStore : ℕ → Bool
+  mayStore c = reaches (S .segments) (S .writes c) c
+
+  -- What a load sees of a segment: its bytes where a line gives r, else nothing.
+  unfoldable pub looks : List ℕ → ℕ → List ℕ
+  looks memory c = cond (mayLoad c) (select c memory) []
+
+  abbrev pub sees : ℕ → ℕ → List ℕ → Sees
+  sees code save memory =
+      record { saved = part memory (S .base save) (layout .size); code = select code memory; look = looks memory }
+
+  -- 7 load: "ra = byte at offset rb of segment c"; faults 3, then 4
+  unfoldable pub loads : List ℕ → (ℕ → List ℕ) → ℕ → ℕ → ℕ → List ℕ
+  loads save look a b c =
+      cond (mayLoad c)
+      (cond (ltb (register save b) (S .size c))
+      (resulted save a (getD (look c) (register save b) 0))
+      (faults save OffsetOver))
+      (faults save NoRight)
+
+  -- 8 store: "that byte = ra modulo 256"; faults 3, then 4
+  unfoldable pub storesByte : List ℕ → ℕ → ℕ → ℕ → Effect
+  storesByte save a b c =
+      cond (mayStore c)
+      (cond (ltb (register save b) (S .size c))
+      (stores (advanced save) c (register save b) (register save a % 256 ∷ []))
+      (saves (faults save OffsetOver)))
+      (saves (faults save NoRight))
+
+  -- One instruction.
+  unfoldable pub acts : List ℕ → (ℕ → List ℕ) → Instr → Effect
+  acts save look Halt = saves (halts save)
+  acts save look (Set a n) = saves (setsRegister save a n)
+  acts save look (Add a b c) = saves (adds save a b c)
+  acts save look (Sub a b c) = saves (subtracts save a b c)
+  acts save look (And a b c) = saves (ands save a b c)
+  acts save look (Xor a b c) = saves (xors save a b c)
+  acts save look (Shift a b c) = saves (shifts save a b c)
+  acts save look (Load a b c) = saves (loads save look a b c)
+  acts save look (Store a b c) = storesByte save a b c
+  acts save look (Jump a n) = saves (jumps save a n)
+  acts save look Wait = saves (waits save)
+  acts save look (Listen a n) = saves (listens save a n)
+  acts save look Back = saves (comesBack save)
+
+  -- "2 bad opcode or register"
+  unfoldable pub obeys : List ℕ → (ℕ → List ℕ) → Decoded → Effect
+  obeys save look (Runs i) = acts save look i
+  obeys save look Bad = saves (faults save BadInstruction)
+
+  -- The instruction at the counter. "1 counter + 4 is over the code length"
+  unfoldable pub steps : ℕ → Sees → Effect
+  steps codeSize x =
+      cond (ltb codeSize (counter (x .saved) + 4))
+      (saves (faults (x .saved) CounterOver))
+      (obeys (x .saved) (x .look) (fetched (x .code) (counter (x .saved))))
+
+  -- "the tick takes an interrupt .. Else, with state 0, one instruction runs. Else memory is unchanged."
+  unfoldable pub effect : ℕ → Sees → Effect
+  effect codeSize x =
+      cond (takesInterrupt (x .saved)) (saves (interrupted (x .saved)))
+      (cond (isReady (x .saved)) (steps codeSize x) none)
+
+  -- The effect on memory, with the save segment's bytes from `from` on.
+  abbrev pub applied : ℕ → Effect → List ℕ → List ℕ
+  applied from none memory = memory
+  applied from (saves bytes) memory = withPart memory from (layout .size) bytes
+  applied from (stores bytes s at written) memory =
+      sets (withPart memory from (layout .size) bytes) (S .base s + at) written
+
+  -- Memory after a tick of the partition with this code and this save segment.
+  unfoldable pub ticked : ℕ → ℕ → List ℕ → List ℕ
+  ticked code save memory = applied (S .base save) (effect (S .size code) (sees code save memory)) memory

@@ -1,0 +1,3 @@
+pub mod Tests
+pub mod Whole
+pub mod Pairs

@@ -1,0 +1,45 @@
+-- The loop stops at the first partition that lacks a flow line into t; the invariant: none before p does.
+use Prim.Native.Nat.{_-_}
+use borrow.Author.Needs.{needs}
+use Rattle.wholerules.specs.Parts.{reachOf, partitionLacks}
+use Rattle.wholerules.proofs.Laws.Loops.{Searched, search-none, search-found, search-more, search-done}
+use Rattle.wholerules.proofs.flows.target_lacks.Statement.{statement}
+use Rattle.wholerules.proofs.flows.target_lacks.Tie as tie
+
+abbrev Inv-loop : tie.InvT-loop
+Inv-loop save rights flows segments partitions t p₀ p = Searched partitions (partitionLacks (reachOf save rights flows) segments t) p
+
+abbrev μ-loop : tie.MeasureT-loop
+μ-loop save rights flows segments partitions t p₀ p = partitions - p
+
+loop-holds : tie.Need-loop-holds Inv-loop μ-loop
+loop-holds c = search-none _ _
+
+partition-lacks-requires : tie.Need-partition-lacks-requires Inv-loop μ-loop
+partition-lacks-requires c κs = search needs
+
+returns : tie.Need-returns Inv-loop μ-loop
+returns c =
+    search-found _ _ _ _ (c .before .before .loop-test .taken) (c .before .partition-lacks .ensures) (c .if1 .taken)
+
+add-p : tie.Need-add-p Inv-loop μ-loop
+add-p c = search needs
+
+loop-less : tie.Need-loop-less Inv-loop μ-loop
+loop-less c = search needs
+
+loop-again : tie.Need-loop-again Inv-loop μ-loop
+loop-again c =
+    search-more _ _ _ _
+    (c .before .before .before .loop .inv)
+    (c .before .before .loop-test .taken)
+    (c .before .partition-lacks .ensures)
+    (c .if1 .left)
+
+returns-2 : tie.Need-returns-2 Inv-loop μ-loop
+returns-2 c = search-done _ _ _ (c .before .loop .inv) (c .loop-test .left)
+
+pub target-lacks-spec : {M : Type 1} → statement M
+target-lacks-spec =
+    tie.close
+    (tie.spec Inv-loop μ-loop loop-holds partition-lacks-requires returns add-p loop-less loop-again returns-2)

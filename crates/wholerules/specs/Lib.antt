@@ -1,0 +1,2 @@
+-- A record of which only the arrays that these rules read are known.
+pub mod Parts

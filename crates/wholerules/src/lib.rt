@@ -1,0 +1,9 @@
+// Document 01's rules 6, 7 and 8, which are asked of the whole policy. Each is answered for any value of the record,
+// sound or not.
+mod access;
+mod flows;
+mod rules;
+
+pub use access::byte_at;
+pub use rules::lent_refusal;
+pub use rules::whole_refusal;
