@@ -4,3 +4,7 @@ pub mod Laws
 pub mod Entries
 -- What the test gives whoever rests on a sound record.
 pub mod Lawful
+-- What each accepted line keeps, by kind.
+pub mod Kept
+-- A sound record passes the test, and so has its laws.
+pub mod Accepted
