@@ -1,0 +1,4 @@
+pub mod Cut
+pub mod Bytes
+pub mod Numbers
+pub mod Fields

@@ -1,0 +1,102 @@
+-- A number's digits write that number, and nothing but it: by induction on the digits left, dividing by ten.
+use Prim.Native.Nat.{ℕ, zero, suc, _+_, _-_, _/_, _%_, _^_, _<_, _≤_}
+use mathlib.Core.Path.{_≡_, refl, _∙_, ap}
+use mathlib.Core.Bool.{true, false, cond}
+use mathlib.Core.List.{List, [], _∷_}
+use native.Mathlib.Nat.{div-add-mod', mod-lt, div-lt-iff-lt-mul, pow-suc, le-trans}
+use native.Mathlib.Omega.{arith}
+use native.Mathlib.Decide.{decLt}
+use borrow.Author.Tests.{lt-ltb, le-ltb, le-leb, ne-eqb}
+use lib.ListN.{length}
+use lib.Dec.{ltb}
+use Rattle.text.specs.Number.{isDigit, allDigits, leadingZero, isNumber, valueFrom, number}
+use Rattle.text.specs.declared.line.Number.the-variants.{Value}
+use Rattle.printer.specs.Decimal.{digit, digits, digitsBefore}
+
+-- One digit, or one more: what a fact about the digits of n asks for.
+digits-cases : (P : List ℕ → Type 0) (k n : ℕ) (later : List ℕ) →
+    (n < 10 → P (digit n ∷ later)) → (10 ≤ n → P (digitsBefore k (n / 10) (digit (n % 10) ∷ later))) →
+    P (digitsBefore (suc k) n later)
+unfolding digitsBefore
+digits-cases P k n later one more = go (decLt n 10)
+  where
+    go : Dec (n < 10) → P (cond (ltb n 10) (digit n ∷ later) (digitsBefore k (n / 10) (digit (n % 10) ∷ later)))
+    go (yes l) = rw (lt-ltb n 10 l) (one l)
+    go (no g) = let l : 10 ≤ n = omega arith in rw (le-ltb n 10 l) (more l)
+
+pub value-before : (k n : ℕ) (later : List ℕ) → valueFrom 0 (digitsBefore k n later) ≡ valueFrom n later
+unfolding valueFrom digitsBefore
+value-before zero n later = ap (λ (m : ℕ). valueFrom m later) (omega arith)
+value-before (suc k) n later =
+    digits-cases (λ l. valueFrom 0 l ≡ valueFrom n later) k n later
+    (λ l. ap (λ (m : ℕ). valueFrom m later) (omega arith))
+    (λ l. value-before k (n / 10) (digit (n % 10) ∷ later)
+    ∙ ap (λ (m : ℕ). valueFrom m later) (omega (arith, div-add-mod' n 10)))
+
+shorter : (k n : ℕ) → n < 10 ^ suc (suc k) → n / 10 < 10 ^ suc k
+shorter k n h = div-lt-iff-lt-mul {k = 10} {x = n} {y = 10 ^ suc k} (omega arith) .1 (rw pow-suc at h)
+
+is-digit : (d : ℕ) → d < 10 → isDigit (digit d) ≡ true
+is-digit d l = rw (le-leb 0x30 (0x30 + d) (omega arith), le-leb (0x30 + d) 0x39 (omega arith))
+
+pub digits-all : (k n : ℕ) (later : List ℕ) → n < 10 ^ suc k → allDigits later ≡ true →
+    allDigits (digitsBefore k n later) ≡ true
+unfolding allDigits digitsBefore
+digits-all zero n later h e = rw (is-digit n h, e)
+digits-all (suc k) n later h e =
+    digits-cases (λ l. allDigits l ≡ true) k n later
+    (λ l. rw (is-digit n l, e))
+    (λ l. digits-all k (n / 10) (digit (n % 10) ∷ later) (shorter k n h)
+    (rw (is-digit (n % 10) (mod-lt n (omega arith)), e)))
+
+pub digits-lead : (k n : ℕ) (later : List ℕ) → 0 < n → leadingZero (digitsBefore k n later) ≡ false
+unfolding digitsBefore
+digits-lead zero n later p = rw (ne-eqb (0x30 + n) 0x30 (omega arith))
+digits-lead (suc k) n later p =
+    digits-cases (λ l. leadingZero l ≡ false) k n later
+    (λ l. rw (ne-eqb (0x30 + n) 0x30 (omega arith)))
+    (λ l. digits-lead k (n / 10) (digit (n % 10) ∷ later) (omega (arith, div-add-mod' n 10, mod-lt n {m = 10} (omega arith))))
+
+-- A number below 10 ^ (j + 1) has at most j + 1 digits, however many there is room for.
+pub width-before : (k j n : ℕ) (later : List ℕ) → j ≤ k → n < 10 ^ suc j →
+    length (digitsBefore k n later) ≤ suc j + length later
+unfolding digitsBefore
+width-before zero j n later r h = omega arith
+width-before (suc k) zero n later r h =
+    digits-cases (λ l. length l ≤ suc zero + length later) k n later (λ l. omega arith) (λ l. absurd (omega arith))
+width-before (suc k) (suc j) n later r h =
+    digits-cases (λ l. length l ≤ suc (suc j) + length later) k n later
+    (λ l. omega arith)
+    (λ l. le-trans
+    (width-before k j (n / 10) (digit (n % 10) ∷ later) (omega arith) (shorter j n h)) (omega arith))
+
+pub some-before : (k n : ℕ) (later : List ℕ) → 1 ≤ length (digitsBefore k n later)
+unfolding digitsBefore
+some-before zero n later = omega arith
+some-before (suc k) n later =
+    digits-cases (λ l. 1 ≤ length l) k n later (λ l. omega arith)
+    (λ l. some-before k (n / 10) (digit (n % 10) ∷ later))
+
+pub width : (j n : ℕ) → j ≤ 4 → n < 10 ^ suc j → length (digits n) ≤ suc j
+unfolding digits
+width j n r h = omega (arith, width-before 4 j n [] r h)
+
+no-zero-leads : (n : ℕ) → leadingZero (digits n) ≡ false
+unfolding digits digitsBefore
+no-zero-leads zero = refl
+no-zero-leads (suc n) = digits-lead 4 (suc n) [] (omega arith)
+
+pub all-digits : (n : ℕ) → n < 100000 → allDigits (digits n) ≡ true
+unfolding digits allDigits
+all-digits n h = digits-all 4 n [] h refl
+
+pub digits-number : (n : ℕ) → n < 100000 → number (digits n) ≡ Value n
+unfolding number isNumber digits valueFrom
+digits-number n h =
+    rw (
+      le-leb 1 (length (digitsBefore 4 n [])) (some-before 4 n []),
+      le-leb (length (digitsBefore 4 n [])) 5 (width 4 n (omega arith) h),
+      all-digits n h,
+      no-zero-leads n,
+      value-before 4 n [],
+    )
