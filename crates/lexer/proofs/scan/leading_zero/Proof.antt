@@ -1,8 +1,8 @@
 -- A field of fewer than two bytes has no leading zero, and a longer one has if its first byte is 0.
 use mathlib.Core.Path.{sym}
-use Rattle.lexer.proofs.Laws.Numbers.{zero-short, zero-long}
 use borrow.Author.Needs.{needs}
 use native.Mathlib.Omega.{arith}
+use Rattle.lexer.proofs.Laws.Numbers.{zero-short, zero-long}
 use Rattle.lexer.proofs.scan.leading_zero.Statement.{statement}
 use Rattle.lexer.proofs.scan.leading_zero.Tie as tie
 

@@ -1,0 +1,76 @@
+-- Each kind of line has its own test, which is the definition at that kind.
+use Rattle.policy.specs.Clash.{clashes}
+use borrow.Author.Needs.{needs}
+use Rattle.linerules.proofs.clash.clashes.Statement.{statement}
+use Rattle.linerules.proofs.clash.clashes.Tie as tie
+
+enum-told : tie.Need-enum-told
+enum-told c = search needs
+
+enum-known-line : tie.Need-enum-known-line
+enum-known-line c = search needs
+
+overlaps-earlier-requires : tie.Need-overlaps-earlier-requires
+overlaps-earlier-requires c κs = search needs
+
+enum-known-line-2 : tie.Need-enum-known-line-2
+enum-known-line-2 c = search needs
+
+partition-clashes-requires : tie.Need-partition-clashes-requires
+partition-clashes-requires c κs = search needs
+
+enum-known-line-3 : tie.Need-enum-known-line-3
+enum-known-line-3 c = search needs
+
+is-save-requires : tie.Need-is-save-requires
+is-save-requires c κs = search needs
+
+enum-known-line-4 : tie.Need-enum-known-line-4
+enum-known-line-4 c = search needs
+
+enum-told-2 : tie.Need-enum-told-2
+enum-told-2 c = search needs
+
+returns : tie.Need-returns
+unfolding clashes
+returns c = rw (c .enum-told .given .1)
+
+returns-2 : tie.Need-returns-2
+unfolding clashes
+returns-2 c = rw (c .before .before .line .given .1) (c .overlaps-earlier .ensures)
+
+returns-3 : tie.Need-returns-3
+unfolding clashes
+returns-3 c = rw (c .before .before .line2 .given .1) (c .partition-clashes .ensures)
+
+returns-4 : tie.Need-returns-4
+unfolding clashes
+returns-4 c = rw (c .before .before .line3 .given .1) (c .is-save .ensures)
+
+returns-5 : tie.Need-returns-5
+unfolding clashes
+returns-5 c = rw (c .before .line4 .given .1)
+
+returns-6 : tie.Need-returns-6
+unfolding clashes
+returns-6 c = rw (c .enum-told2 .given .1)
+
+pub clashes-spec : {M : Type 1} → statement M
+clashes-spec =
+    tie.close
+    (tie.spec
+    enum-told
+    enum-known-line
+    overlaps-earlier-requires
+    enum-known-line-2
+    partition-clashes-requires
+    enum-known-line-3
+    is-save-requires
+    enum-known-line-4
+    enum-told-2
+    returns
+    returns-2
+    returns-3
+    returns-4
+    returns-5
+    returns-6)

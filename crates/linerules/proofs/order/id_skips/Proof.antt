@@ -1,0 +1,57 @@
+-- Each kind of line with an id has the count that it must equal.
+use borrow.Author.Needs.{needs}
+use Rattle.linerules.proofs.order.id_skips.Statement.{statement}
+use Rattle.linerules.proofs.order.id_skips.Tie as tie
+
+enum-told : tie.Need-enum-told
+enum-told c = search needs
+
+enum-known-line : tie.Need-enum-known-line
+enum-known-line c = search needs
+
+enum-known-line-2 : tie.Need-enum-known-line-2
+enum-known-line-2 c = search needs
+
+enum-told-2 : tie.Need-enum-told-2
+enum-told-2 c = search needs
+
+enum-told-3 : tie.Need-enum-told-3
+enum-told-3 c = search needs
+
+enum-told-4 : tie.Need-enum-told-4
+enum-told-4 c = search needs
+
+returns : tie.Need-returns
+returns c = search needs
+
+returns-2 : tie.Need-returns-2
+returns-2 c = rw (c .before .line .given .1)
+
+returns-3 : tie.Need-returns-3
+returns-3 c = rw (c .before .line2 .given .1)
+
+returns-4 : tie.Need-returns-4
+returns-4 c = search needs
+
+returns-5 : tie.Need-returns-5
+returns-5 c = search needs
+
+returns-6 : tie.Need-returns-6
+returns-6 c = search needs
+
+pub id-skips-spec : {M : Type 1} → statement M
+id-skips-spec =
+    tie.close
+    (tie.spec
+    enum-told
+    enum-known-line
+    enum-known-line-2
+    enum-told-2
+    enum-told-3
+    enum-told-4
+    returns
+    returns-2
+    returns-3
+    returns-4
+    returns-5
+    returns-6)

@@ -1,0 +1,24 @@
+-- Each return is the definition at the tests on the way.
+use Rattle.policy.specs.Range.{outOfRange}
+use borrow.Author.Tests.{lt-ltb, le-ltb, le-leb, lt-leb}
+use Rattle.linerules.proofs.range.slot_outside.Statement.{statement}
+use Rattle.linerules.proofs.range.slot_outside.Tie as tie
+
+returns : tie.Need-returns
+unfolding outOfRange
+returns c = rw (le-leb _ _ (c .if1 .taken))
+
+returns-2 : tie.Need-returns-2
+unfolding outOfRange
+returns-2 c = rw (lt-leb _ _ (c .before .if1 .left), le-leb _ _ (c .if2 .taken))
+
+returns-3 : tie.Need-returns-3
+unfolding outOfRange
+returns-3 c = rw (lt-leb _ _ (c .before .before .if1 .left), lt-leb _ _ (c .before .if2 .left), lt-ltb _ _ (c .if3 .taken))
+
+returns-4 : tie.Need-returns-4
+unfolding outOfRange
+returns-4 c = rw (lt-leb _ _ (c .before .before .if1 .left), lt-leb _ _ (c .before .if2 .left), le-ltb _ _ (c .if3 .left))
+
+pub slot-outside-spec : {M : Type 1} → statement M
+slot-outside-spec = tie.close (tie.spec returns returns-2 returns-3 returns-4)

@@ -1,0 +1,21 @@
+-- Whatever the refusal, the record is that of zeros.
+use mathlib.Core.Path.{_≡_, refl}
+use mathlib.Core.Bool.{Bool, true, false, cond}
+use borrow.Author.Needs.{needs}
+use Rattle.policy.specs.declared.record.Policy.{Policy}
+use Rattle.policy.specs.Refusals.{isAccepted}
+use Rattle.reader.proofs.lines.refused.Statement.{statement}
+use Rattle.reader.proofs.lines.refused.Tie as tie
+
+cond-same : (b : Bool) (p : Policy) → cond b p p ≡ p
+cond-same true p = refl
+cond-same false p = refl
+
+zeros-requires : tie.Need-zeros-requires
+zeros-requires c κs = search needs
+
+returns : tie.Need-returns
+returns c = rw (c .zeros .ensures, cond-same (isAccepted (c .before .args .refusal)))
+
+pub refused-spec : {M : Type 1} → statement M
+refused-spec = tie.close (tie.spec zeros-requires returns)

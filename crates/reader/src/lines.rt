@@ -1,0 +1,85 @@
+// The lines of a text, one after another, and the rules for the whole at the end.
+ghost use Prim.Native.Nat.{_≤_};
+ghost use mathlib.Core.Path.{_≡_};
+ghost use lib.ListN.{length};
+ghost use Rattle.text.specs.Lines.{linesOf};
+ghost use Rattle.policy.specs.Limits.{single};
+ghost use Rattle.policy.specs.Record.{zeros, viewOf};
+ghost use Rattle.policy.specs.Draft.{begun};
+ghost use Rattle.policy.specs.Read.{answer, wholeRefusal, readLines};
+use linerules::added;
+use linerules::is_accepted;
+use linerules::key_of;
+use linerules::line_refusal;
+use linerules::zeros;
+use policy::Key;
+use policy::Policy;
+use policy::Reading;
+use policy::Refusal;
+use text::Cursor;
+use wholerules::whole_refusal;
+
+// A refusal comes with the record of zeros.
+pub(crate) fn refused(refusal: Refusal) -> Reading
+    ensures { λ r. ⌜ r ≡ answer refusal zeros ⌝ }
+{
+    Reading {
+        refusal,
+        policy: zeros(),
+    }
+}
+
+// The answer once all lines are read into the record.
+fn judged(policy: Policy) -> Reading
+    ensures { λ r. ⌜ r ≡ answer (wholeRefusal (viewOf policy)) policy ⌝ }
+{
+    let refusal = whole_refusal(policy);
+    if is_accepted(refusal) {
+        return Reading { refusal, policy };
+    }
+    refused(refusal)
+}
+
+// The answer for a text that is not too long.
+pub(crate) fn read_lines(text: &[u8]) -> Reading
+    requires { ⌜ length (now text) ≤ 16384 ⌝ }
+    ensures { λ r. ⌜ r ≡ readLines single 1 begun (linesOf (now (text .entry))) ⌝ }
+{
+    let mut policy = zeros();
+    let mut before = Key {
+        kind: 0,
+        first: 0,
+        second: 0,
+    };
+    let mut c = Cursor { at: 0, line: 1 };
+    while c.at < text.len() {
+        let n = c.line;
+        let end = lexer::find(text, c.at, b'\n');
+        if text.len() <= end {
+            return refused(Refusal::Malformed(n));
+        }
+        let line = lexer::line_at(&text[..end], c);
+        let refusal = line_refusal(
+            policy.segments,
+            policy.partitions,
+            policy.slots,
+            &policy.base,
+            &policy.size,
+            &policy.code,
+            &policy.save,
+            before,
+            line,
+            n,
+        );
+        if !is_accepted(refusal) {
+            return refused(refusal);
+        }
+        policy = added(policy, line);
+        before = key_of(line);
+        c = Cursor {
+            at: end + 1,
+            line: n + 1,
+        };
+    }
+    judged(policy)
+}

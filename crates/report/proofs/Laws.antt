@@ -1,0 +1,4 @@
+pub mod Written
+pub mod Digits
+pub mod Sums
+pub mod Rows

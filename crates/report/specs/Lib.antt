@@ -1,0 +1,7 @@
+-- The report, and which readings have one that fits.
+pub mod Report
+pub mod Reportable
+-- What its parts are by numbers and lists alone, and what writing bytes leaves.
+pub mod Rows
+pub mod Masks
+pub mod Written

@@ -1,0 +1,56 @@
+-- 01, "The demonstration head": what policycheck writes.
+use Prim.Native.Nat.{ℕ, zero, suc, _^_}
+use mathlib.Core.Bool.{Bool, cond}
+use mathlib.Core.List.{List, [], _∷_, _++_}
+use Rattle.text.specs.Bytes.{bytesOf}
+use Rattle.text.specs.Cut.{tab, lineEnd}
+use Rattle.printer.specs.Decimal.{digits}
+use Rattle.policy.specs.declared.record.Reading.{Reading}
+use Rattle.policy.specs.declared.record.Refusal.{Refusal}
+use Rattle.policy.specs.Below.{sumBelow}
+use Rattle.policy.specs.Limits.{single}
+use Rattle.policy.specs.View.{View}
+use Rattle.policy.specs.Access.{readable, writable}
+use Rattle.policy.specs.Schedule.{roundTicks}
+use Rattle.policy.specs.Record.{viewOf}
+use Rattle.policy.specs.Refusals.{numberOf, lineNumberOf, isAccepted}
+use Rattle.policy.specs.Read.{readOf}
+
+-- The numbers of a line, each after a tab, and the line's end.
+abbrev pub numbers : List ℕ → List ℕ
+numbers [] = lineEnd ∷ []
+numbers (n ∷ ns) = tab ∷ digits n ++ numbers ns
+
+-- "the masks of partitions p with the segment in R(p) and in W(p), bit p worth 2 to the power p"
+unfoldable pub maskOf : View → (ℕ → Bool) → ℕ
+maskOf v has = sumBelow (v .partitions) (λ p. cond (has p) (2 ^ p) 0)
+
+abbrev pub readMask : View → ℕ → ℕ
+readMask v s = maskOf v (λ p. readable v p s)
+
+abbrev pub writeMask : View → ℕ → ℕ
+writeMask v s = maskOf v (λ p. writable v p s)
+
+-- "Then id, and the masks"
+unfoldable pub segmentRow : View → ℕ → List ℕ
+segmentRow v s = bytesOf "segment" ++ numbers (s ∷ readMask v s ∷ writeMask v s ∷ [])
+
+unfoldable pub segmentRows : View → ℕ → List ℕ
+segmentRows v zero = []
+segmentRows v (suc s) = segmentRows v s ++ segmentRow v s
+
+-- "First line: partitions, segments, slots, ticks in one round."
+unfoldable pub acceptedRow : View → List ℕ
+acceptedRow v = bytesOf "accepted" ++ numbers (v .partitions ∷ v .segments ∷ v .slots ∷ roundTicks v ∷ [])
+
+-- "A refused text gives one line: refused, number, line."
+unfoldable pub refusedRow : Refusal → List ℕ
+refusedRow refusal = bytesOf "refused" ++ numbers (numberOf refusal ∷ lineNumberOf refusal ∷ [])
+
+unfoldable pub reportOfReading : Reading → List ℕ
+reportOfReading reading =
+    let v = viewOf (reading .policy) in
+    cond (isAccepted (reading .refusal)) (acceptedRow v ++ segmentRows v (v .segments)) (refusedRow (reading .refusal))
+
+unfoldable pub reportOf : List ℕ → List ℕ
+reportOf text = reportOfReading (readOf single text)

@@ -1,0 +1,18 @@
+-- Which readings the report has room for: those within the limits, as reading a text gives them.
+use Prim.Native.Nat.{ℕ, _≤_, _<_}
+use Rattle.policy.specs.declared.record.Reading.{Reading}
+use Rattle.policy.specs.Limits.{single, mostTicks}
+use Rattle.policy.specs.View.{View}
+use Rattle.policy.specs.Record.{viewOf}
+use Rattle.policy.specs.Refusals.{lineNumberOf}
+
+-- The counts and the ticks of a policy that the first line tells.
+pub record Countable (v : View) : Type 0 where
+  pub few-segments : v .segments ≤ single .segments
+  pub few-partitions : v .partitions ≤ single .partitions
+  pub few-slots : v .slots ≤ single .slots
+  pub ticks-most : (i : ℕ) → i < v .slots → v .ticks i ≤ mostTicks
+
+pub record Reportable (reading : Reading) : Type 0 where
+  pub counts : Countable (viewOf (reading .policy))
+  pub line-short : lineNumberOf (reading .refusal) < 100000

@@ -1,0 +1,9 @@
+// The report that policycheck writes.
+mod masks;
+mod put;
+mod refusal;
+mod rows;
+mod ticks;
+mod write;
+
+pub use write::write_report;

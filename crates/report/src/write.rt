@@ -1,0 +1,63 @@
+// The whole report: of an accepted text its first row and a row for each segment, of a refused text one row.
+use crate::masks::masks_of;
+use crate::refusal::line_number_of;
+use crate::refusal::number_of;
+use crate::rows::put_accepted;
+use crate::rows::put_refused;
+use crate::rows::put_segment;
+use crate::ticks::round_ticks;
+use policy::Policy;
+use policy::Reading;
+ghost use mathlib.Core.Path.{_≡_};
+ghost use Prim.Native.Nat.{_≤_};
+ghost use lib.ListN.{length};
+ghost use lib.Seq.{sets};
+ghost use Rattle.policy.specs.Record.{viewOf};
+ghost use Rattle.report.specs.Report.{acceptedRow, segmentRows, reportOfReading};
+ghost use Rattle.report.specs.Reportable.{Countable, Reportable};
+ghost use Rattle.report.specs.Written.{Written};
+
+fn put_first(policy: Policy, out: &mut [u8; 640]) -> usize
+    requires { ⌜ Countable (viewOf policy) ⌝ }
+    ensures { λ r. ⌜ Written (now (out .entry)) 0 (acceptedRow (viewOf policy)) (now (out .exit)) r ⌝ }
+{
+    let ticks = round_ticks(&policy.ticks, policy.slots);
+    put_accepted(
+        out,
+        policy.partitions as u32,
+        policy.segments as u32,
+        policy.slots as u32,
+        ticks,
+    )
+}
+
+fn put_segments(policy: Policy, out: &mut [u8; 640], at: usize) -> usize
+    requires { ⌜ Countable (viewOf policy) × (at ≤ 23) ⌝ }
+    ensures { λ r. ⌜ Written (now (out .entry)) at (segmentRows (viewOf policy) (policy .segments)) (now (out .exit)) r ⌝ }
+{
+    let count = policy.segments;
+    let mut next = at;
+    let mut s: u8 = 0;
+    while s < count {
+        let masks = masks_of(&policy.save, &policy.rights, policy.partitions, s);
+        next = put_segment(out, next, s as u32, masks.reads, masks.writes);
+        s += 1;
+    }
+    next
+}
+
+// The longest report has 23 + 32 * 19 = 631 bytes.
+pub fn write_report(reading: Reading, out: &mut [u8; 640]) -> usize
+    requires { ⌜ Reportable reading ⌝ }
+    ensures { λ r. ⌜ (r ≡ length (reportOfReading reading))
+        × (now (out .exit) ≡ sets (now (out .entry)) 0 (reportOfReading reading)) ⌝ }
+{
+    let refusal = reading.refusal;
+    let number = number_of(refusal);
+    if number == 0 {
+        let policy = reading.policy;
+        let next = put_first(policy, out);
+        return put_segments(policy, out, next);
+    }
+    put_refused(out, number, line_number_of(refusal))
+}

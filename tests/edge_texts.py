@@ -1,0 +1,241 @@
+#!/usr/bin/env python3
+"""Policy texts at the edges of refusals 1 to 8, for the test program crates/texts.
+
+    edge_texts.py ROOT     writes crates/texts/data/cases and crates/texts/stdout below the repository ROOT
+
+A case is its name, filled up with spaces to 40 bytes, its length in 7 digits, a line end, and then that many bytes. The expected answers come from policy_reference.py.
+"""
+import os
+import sys
+
+from policy_reference import read
+
+
+def text(*lines, end=b"\n"):
+    return b"".join(l.replace(b" ", b"\t") + end for l in lines)
+
+
+DEMO = [
+    b"segment 0 0 64", b"segment 1 64 44", b"segment 2 128 64", b"segment 3 192 44", b"segment 4 256 16",
+    b"partition 0 0 1", b"partition 1 2 3",
+    b"right 0 0 r", b"right 0 4 w", b"right 1 2 r", b"right 1 4 r",
+    b"flow 0 1", b"flow 0 4", b"flow 1 4", b"flow 2 3", b"flow 4 3",
+    b"slot 0 3", b"slot 1 2",
+]
+
+
+def demo(*changes):
+    """The demonstration text with lines replaced (i, line), left out (i, None) or put before i (-1 - i, line)."""
+    lines = list(DEMO)
+    for i, line in sorted(changes, key=lambda c: -(c[0] if c[0] >= 0 else -1 - c[0])):
+        if i < 0:
+            lines.insert(-1 - i, line)
+        elif line is None:
+            del lines[i]
+        else:
+            lines[i] = line
+    return text(*lines)
+
+
+def small(segments=None, partitions=None, rights=None, flows=None, slots=None):
+    """A least policy: code 0, save 1, one partition."""
+    return text(
+        *(segments or [b"segment 0 0 64", b"segment 1 64 44"]),
+        *(partitions if partitions is not None else [b"partition 0 0 1"]),
+        *(rights if rights is not None else [b"right 0 0 r"]),
+        *(flows if flows is not None else [b"flow 0 1"]),
+        *(slots if slots is not None else [b"slot 0 1"]),
+    )
+
+
+def many_segments(n):
+    return [b"segment %d %d 44" % (i, 44 * i) for i in range(n)]
+
+
+def longest():
+    """Every segment, partition, right, flow and slot that there is room for, with wide numbers."""
+    segments = [b"segment %d %d %d" % (i, 12000 + 44 * i, 44) if i < 8 else b"segment %d %d %d" % (i, 100 * i + 1000, 100) for i in range(32)]
+    partitions = [b"partition %d %d %d" % (p, 31, p) for p in range(8)]
+    rights = [b"right %d %d rw" % (p, s) for p in range(8) for s in range(8, 32)]
+    flows = [b"flow %d %d" % (a, b) for a in range(32) for b in range(32) if a != b]
+    slots = [b"slot 7 1000" for _ in range(32)]
+    return segments + partitions + rights + flows + slots
+
+
+def padded(n):
+    """The longest text, and then bytes that end it on a bad line, n bytes in all."""
+    body = text(*longest())
+    rest = n - len(body)
+    return body + (b"slot\t7\t1\n" * (rest // 9 + 1))[:rest]
+
+
+CASES = [("demonstration", demo()), ("least", small())]
+add = lambda name, t: CASES.append((name, t))
+
+# 1, and input of any kind
+add("bytes-16384", padded(16384))
+add("bytes-16385", padded(16385))
+add("line-ends-16384", b"\n" * 16384)
+add("line-ends-16385", b"\n" * 16385)
+add("longest", text(*longest()))
+add("empty", b"")
+add("all-bytes", bytes(range(256)))
+
+# 2: word, fields, numbers, letters, line end
+add("one-line-end", b"\n")
+add("empty-first-line", b"\n" + demo())
+add("empty-last-line", demo() + b"\n")
+add("no-last-line-end", demo()[:-1])
+add("one-byte", b"s")
+add("carriage-return", demo().replace(b"\n", b"\r\n"))
+add("spaces", demo().replace(b"\t", b" "))
+add("double-tab", demo((1, b"segment 1  64 44")))
+add("leading-tab", demo((1, b" segment 1 64 44")))
+add("trailing-tab", demo((1, b"segment 1 64 44 ")))
+add("word-unknown", demo((0, b"segments 0 0 64")))
+add("word-short", demo((0, b"segmen 0 0 64")))
+add("word-capital", demo((0, b"Segment 0 0 64")))
+add("word-alone", demo((0, b"segment")))
+add("field-missing", demo((0, b"segment 0 0")))
+add("field-more", demo((0, b"segment 0 0 64 0")))
+add("flow-field-more", demo((11, b"flow 0 1 1")))
+add("slot-field-missing", demo((16, b"slot 0")))
+add("number-empty", demo((0, b"segment 0  64")))
+add("number-leading-zero", demo((0, b"segment 0 00 64")))
+add("number-leading-zero-2", demo((4, b"segment 4 0256 16")))
+add("number-plus", demo((0, b"segment 0 +0 64")))
+add("number-minus", demo((0, b"segment 0 -0 64")))
+add("number-letter", demo((0, b"segment 0 0 6a")))
+add("number-hex", demo((0, b"segment 0 0x0 64")))
+add("number-below-0", demo((0, b"segment 0 0 6/")))
+add("number-above-9", demo((0, b"segment 0 0 6:")))
+add("number-five-digits", demo((4, b"segment 4 16368 16")))
+add("number-99999", demo((4, b"segment 4 99999 16")))
+add("number-six-digits", demo((4, b"segment 4 100000 16")))
+add("number-high-byte", demo((0, b"segment 0 0 6\xb4")))
+add("letters-empty", demo((7, b"right 0 0 ")))
+add("letters-wr", demo((7, b"right 0 0 wr")))
+add("letters-x", demo((7, b"right 0 0 x")))
+add("letters-capital", demo((7, b"right 0 0 R")))
+add("letters-rr", demo((7, b"right 0 0 rr")))
+add("letters-rwr", demo((7, b"right 0 0 rwr")))
+add("letters-number", demo((7, b"right 0 0 1")))
+add("nul-byte", demo((0, b"segment 0 0 64\x00")))
+
+# 3: kind, id, pair
+add("kind-segment-late", demo((6, b"segment 5 300 16")))
+add("kind-partition-late", demo((8, b"partition 2 0 1")))
+add("kind-right-late", demo((12, b"right 1 4 w")))
+add("kind-flow-late", demo((17, b"flow 4 1")))
+add("kind-slot-first", text(b"slot 0 1"))
+add("kind-flow-first", text(b"flow 0 1"))
+add("kind-right-first", text(b"right 0 0 r"))
+add("kind-partition-first", text(b"partition 0 0 1"))
+add("id-segment-gap", demo((1, b"segment 2 64 44")))
+add("id-segment-same", demo((1, b"segment 0 64 44")))
+add("id-segment-not-0", text(b"segment 1 0 64"))
+add("id-partition-gap", demo((6, b"partition 2 2 3")))
+add("id-partition-same", demo((6, b"partition 0 2 3")))
+add("pair-right-same", demo((8, b"right 0 0 w")))
+add("pair-right-falls", demo((8, b"right 0 4 w"), (9, b"right 0 2 r")))
+add("pair-right-first-falls", demo((10, b"right 0 4 r")))
+add("pair-flow-same", demo((12, b"flow 0 1")))
+add("pair-flow-falls", demo((12, b"flow 0 0")))
+add("pair-flow-first-falls", demo((14, b"flow 0 9")))
+add("pair-flow-after-right", demo((10, b"right 1 4 r"), (11, b"flow 0 1")))
+
+# 4: counts, ranges, names
+add("segments-32", text(*many_segments(32)))
+add("segments-33", text(*many_segments(33)))
+add("segments-33-id-wrong", text(*many_segments(32), b"segment 33 2000 44"))
+add("length-0", demo((4, b"segment 4 256 0")))
+add("length-1", demo((4, b"segment 4 256 1")))
+add("length-4096", demo((4, b"segment 4 256 4096")))
+add("length-4097", demo((4, b"segment 4 256 4097")))
+add("end-16384", demo((4, b"segment 4 12288 4096")))
+add("end-16385", demo((4, b"segment 4 12289 4096")))
+add("base-16383", demo((4, b"segment 4 16383 1")))
+add("base-16384", demo((4, b"segment 4 16384 1")))
+add("partitions-8", text(*many_segments(9), *[b"partition %d 8 %d" % (p, p) for p in range(8)]))
+add("partitions-9", text(*many_segments(10), *[b"partition %d 9 %d" % (p, p) for p in range(9)]))
+add("partition-code-none", demo((6, b"partition 1 5 3")))
+add("partition-save-none", demo((6, b"partition 1 2 5")))
+add("right-partition-none", demo((10, b"right 2 4 r")))
+add("right-segment-none", demo((10, b"right 1 5 r")))
+add("flow-from-none", demo((15, b"flow 5 3")))
+add("flow-to-none", demo((15, b"flow 4 5")))
+add("slot-partition-none", demo((17, b"slot 2 2")))
+add("ticks-0", demo((17, b"slot 1 0")))
+add("ticks-1", demo((17, b"slot 1 1")))
+add("ticks-1000", demo((17, b"slot 1 1000")))
+add("ticks-1001", demo((17, b"slot 1 1001")))
+add("slots-32", small(slots=[b"slot 0 1000"] * 32))
+add("slots-33", small(slots=[b"slot 0 1"] * 33))
+
+# 5: overlap, save, right on save, flow to itself
+add("overlap-by-one", demo((1, b"segment 1 63 44")))
+add("overlap-touching", demo((4, b"segment 4 236 16")))
+add("overlap-by-one-after", demo((4, b"segment 4 235 16")))
+add("overlap-inside", demo((4, b"segment 4 140 4")))
+add("overlap-around", demo((4, b"segment 4 100 200")))
+add("overlap-same", demo((4, b"segment 4 128 64")))
+add("overlap-before", demo((4, b"segment 4 112 16")))
+add("overlap-before-by-one", demo((4, b"segment 4 112 17")))
+add("save-43", demo((3, b"segment 3 192 43")))
+add("save-45", demo((3, b"segment 3 192 45")))
+add("save-twice", demo((6, b"partition 1 2 1")))
+add("save-is-own-code", demo((6, b"partition 1 3 3")))
+add("save-is-earlier-code", text(b"segment 0 0 44", b"segment 1 44 44", b"partition 0 0 1", b"partition 1 0 0"))
+add("code-is-earlier-save", demo((6, b"partition 1 1 3")))
+add("code-shared", demo((6, b"partition 1 0 3")))
+add("right-on-save", demo((8, b"right 0 1 w")))
+add("right-on-other-save", demo((8, b"right 0 3 r")))
+add("flow-to-itself", demo((12, b"flow 1 1")))
+add("unsaved-44", small(segments=[b"segment 0 0 64", b"segment 1 64 44", b"segment 2 108 44"], rights=[b"right 0 0 r", b"right 0 2 r"], flows=[b"flow 0 1", b"flow 2 1"]))
+
+# 6, 7, 8
+add("no-slot", text(*DEMO[:16]))
+add("only-segments", text(*DEMO[:5]))
+add("no-right", small(rights=[]))
+add("code-w", small(rights=[b"right 0 0 w"], flows=[b"flow 0 1", b"flow 1 0"]))
+add("code-rw", small(rights=[b"right 0 0 rw"], flows=[b"flow 0 1", b"flow 1 0"]))
+add("second-code-unread", demo((9, b"right 1 2 w")))
+add("no-flow", small(flows=[]))
+add("flow-code-save-missing", demo((11, None)))
+add("flow-code-target-missing", demo((12, None)))
+add("flow-save-target-missing", demo((13, None)))
+add("flow-other-missing", demo((15, None)))
+add("flow-more", demo((-1 - 15, b"flow 4 1")))
+add("flow-w-alone", small(segments=[b"segment 0 0 64", b"segment 1 64 44", b"segment 2 200 8"], rights=[b"right 0 0 r", b"right 0 2 w"], flows=[b"flow 0 1", b"flow 0 2", b"flow 1 2"]))
+add("flow-rw", small(segments=[b"segment 0 0 64", b"segment 1 64 44", b"segment 2 200 8"], rights=[b"right 0 0 r", b"right 0 2 rw"], flows=[b"flow 0 1", b"flow 0 2", b"flow 1 2"]))
+add("flow-rw-all", small(segments=[b"segment 0 0 64", b"segment 1 64 44", b"segment 2 200 8"], rights=[b"right 0 0 r", b"right 0 2 rw"], flows=[b"flow 0 1", b"flow 0 2", b"flow 1 2", b"flow 2 1"]))
+
+# two rules at once: the order
+add("2-before-3", demo((6, b"segment 5 300 16 1")))
+add("2-before-4", demo((4, b"segment 4 256 04097")))
+add("3-before-4", demo((1, b"segment 2 64 4097")))
+add("3-before-5", demo((1, b"segment 2 0 44")))
+add("3-before-4-pair", demo((10, b"right 0 99 w")))
+add("4-before-5", demo((1, b"segment 1 63 5000")))
+add("4-before-5-flow", demo((15, b"flow 9 9")))
+add("4-before-5-partition", demo((6, b"partition 1 9 9")))
+add("line-before-rule", demo((1, b"segment 1 63 44"), (3, b"x")))
+add("first-line-wins", demo((0, b"segment 0 0 0"), (17, b"slot")))
+add("5-before-6", text(*DEMO[:4], b"segment 4 0 16"))
+add("6-before-7", text(*DEMO[:7]))
+add("7-before-8", small(rights=[], flows=[]))
+add("1-before-2", b"x" * 16385)
+
+
+def main(root):
+    folder = os.path.join(root, "crates", "texts")
+    os.makedirs(os.path.join(folder, "data"), exist_ok=True)
+    with open(os.path.join(folder, "data", "cases"), "wb") as cases, open(os.path.join(folder, "stdout"), "wb") as out:
+        for name, t in CASES:
+            cases.write(name.encode().ljust(40) + b"%07d\n" % len(t) + t)
+            number, line, _ = read(t)
+            out.write(b"%s\t%d\t%d\n" % (name.encode(), number, line))
+
+
+if __name__ == "__main__":
+    main(sys.argv[1])
