@@ -7,7 +7,7 @@ use Rattle.text.specs.declared.line.Line.the-variants.{Bad, Segment, Partition,
 use Rattle.policy.specs.declared.record.Draft.{Draft}
 use Rattle.policy.specs.declared.record.Refusal.the-variants.{Accepted, Malformed, OutOfOrder, OutOfRange, Clash}
 use Rattle.policy.specs.Limits.{single}
-use Rattle.policy.specs.Order.{kindOf, keyOf, outOfOrder}
+use Rattle.policy.specs.Order.{outOfOrder}
 use Rattle.policy.specs.Range.{outOfRange}
 use Rattle.policy.specs.Clash.{clashes}
 use Rattle.policy.specs.Read.{isBad, lineRefusal}
@@ -53,11 +53,3 @@ pub part-same : (n : ℕ) (d : Draft) (line : Line) →
     (d .before))
     line
 part-same n d line = line-part n d line ∙ sym (line-part n _ line)
-
-pub key-kind : (line : Line) → keyOf line .kind ≡ kindOf line
-key-kind Bad = refl
-key-kind (Segment id base size) = refl
-key-kind (Partition id code save) = refl
-key-kind (Right partition segment mode) = refl
-key-kind (Flow from to) = refl
-key-kind (Slot partition ticks) = refl

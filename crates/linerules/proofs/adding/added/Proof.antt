@@ -1,7 +1,7 @@
 -- Each kind of line has its own function, whose bounds are what a line that fits meets.
-use Rattle.linerules.proofs.Laws.Fits.{segment-fits, partition-fits, right-fits, flow-fits, slot-fits}
-use Rattle.policy.specs.Draft.{added}
 use borrow.Author.Needs.{needs}
+use Rattle.policy.specs.Draft.{added}
+use Rattle.linerules.proofs.Laws.Fits.{segment-fits, partition-fits, right-fits, flow-fits, slot-fits}
 use Rattle.linerules.proofs.adding.added.Statement.{statement}
 use Rattle.linerules.proofs.adding.added.Tie as tie
 

@@ -1,6 +1,6 @@
 -- Each kind of line has its own test, which is the definition at that kind.
-use Rattle.policy.specs.Clash.{clashes}
 use borrow.Author.Needs.{needs}
+use Rattle.policy.specs.Clash.{clashes}
 use Rattle.linerules.proofs.clash.clashes.Statement.{statement}
 use Rattle.linerules.proofs.clash.clashes.Tie as tie
 

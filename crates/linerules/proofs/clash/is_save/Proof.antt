@@ -1,14 +1,14 @@
--- None of those passed did, and the first that does is found.
+-- No partition passed has the segment as its save segment, and the first that does is found.
 use Prim.Native.Nat.{_≤_, _-_}
-use Rattle.policy.proofs.Laws.Below.{some-more, some-found}
-use Rattle.policy.specs.Below.{someBelow}
+use mathlib.Core.Bool.{false}
+use mathlib.Core.Path.{_≡_, refl, sym}
+use native.Mathlib.Omega.{arith}
 use borrow.Author.Needs.{needs}
 use borrow.Author.Tests.{eq-eqb, ne-eqb}
 use lib.Dec.{eqb}
 use lib.ListN.{getD}
-use mathlib.Core.Bool.{false}
-use mathlib.Core.Path.{_≡_, refl, sym}
-use native.Mathlib.Omega.{arith}
+use Rattle.policy.specs.Below.{someBelow}
+use Rattle.policy.proofs.Laws.Below.{some-more, some-found}
 use Rattle.linerules.proofs.clash.is_save.Statement.{statement}
 use Rattle.linerules.proofs.clash.is_save.Tie as tie
 
@@ -38,7 +38,9 @@ loop-again : tie.Need-loop-again Inv-loop μ-loop
 loop-again c = (omega arith, some-more _ _ (c .before .before .before .loop .inv .1) (rw (← c .before .of-partition .ensures) (ne-eqb _ _ (c .if1 .left))))
 
 returns-2 : tie.Need-returns-2 Inv-loop μ-loop
-returns-2 c = let e : c .before .before .args .partitions ≡ c .before .loop .i = omega arith in rw e (sym (c .before .loop .inv .1))
+returns-2 c =
+    let e : c .before .before .args .partitions ≡ c .before .loop .i = omega arith in
+    rw e (sym (c .before .loop .inv .1))
 
 pub is-save-spec : {M : Type 1} → statement M
 is-save-spec =

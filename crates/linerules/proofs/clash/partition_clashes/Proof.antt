@@ -1,7 +1,7 @@
 -- Each return is the definition at the tests on the way.
-use Rattle.policy.specs.Clash.{clashes}
 use borrow.Author.Needs.{needs}
 use borrow.Author.Tests.{eq-eqb, ne-eqb}
+use Rattle.policy.specs.Clash.{clashes}
 use Rattle.linerules.proofs.clash.partition_clashes.Statement.{statement}
 use Rattle.linerules.proofs.clash.partition_clashes.Tie as tie
 

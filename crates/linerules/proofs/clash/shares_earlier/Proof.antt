@@ -1,14 +1,14 @@
--- None of those passed did, and the first that does is found.
+-- No partition passed shares a save segment, and the first that does is found.
 use Prim.Native.Nat.{_≤_, _-_}
-use Rattle.linerules.specs.Parts.{placed}
-use Rattle.policy.proofs.Laws.Below.{some-more, some-found}
-use Rattle.policy.specs.Below.{someBelow}
-use Rattle.policy.specs.Clash.{shares}
-use borrow.Author.Needs.{needs}
 use mathlib.Core.Bool.{false}
 use mathlib.Core.List.{[]}
 use mathlib.Core.Path.{_≡_, refl, sym, _∙_}
 use native.Mathlib.Omega.{arith}
+use borrow.Author.Needs.{needs}
+use Rattle.policy.specs.Below.{someBelow}
+use Rattle.policy.specs.Clash.{shares}
+use Rattle.policy.proofs.Laws.Below.{some-more, some-found}
+use Rattle.linerules.specs.Parts.{placed}
 use Rattle.linerules.proofs.clash.shares_earlier.Statement.{statement}
 use Rattle.linerules.proofs.clash.shares_earlier.Tie as tie
 
@@ -38,7 +38,9 @@ loop-again : tie.Need-loop-again Inv-loop μ-loop
 loop-again c = (omega arith, some-more _ _ (c .before .before .before .loop .inv .1) (sym (c .before .shares .ensures) ∙ c .if1 .left))
 
 returns-2 : tie.Need-returns-2 Inv-loop μ-loop
-returns-2 c = let e : c .before .before .args .partitions ≡ c .before .loop .i = omega arith in rw e (sym (c .before .loop .inv .1))
+returns-2 c =
+    let e : c .before .before .args .partitions ≡ c .before .loop .i = omega arith in
+    rw e (sym (c .before .loop .inv .1))
 
 pub shares-earlier-spec : {M : Type 1} → statement M
 shares-earlier-spec =

@@ -1,6 +1,6 @@
 -- The three tests are those of the definition, in its order.
-use Rattle.policy.specs.Order.{outOfOrder}
 use borrow.Author.Needs.{needs}
+use Rattle.policy.specs.Order.{outOfOrder}
 use Rattle.linerules.proofs.order.out_of_order.Statement.{statement}
 use Rattle.linerules.proofs.order.out_of_order.Tie as tie
 

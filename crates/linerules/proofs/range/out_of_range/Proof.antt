@@ -1,6 +1,6 @@
 -- Each kind of line has its own test, which is the definition at that kind.
-use Rattle.policy.specs.Range.{outOfRange}
 use borrow.Author.Needs.{needs}
+use Rattle.policy.specs.Range.{outOfRange}
 use Rattle.linerules.proofs.range.out_of_range.Statement.{statement}
 use Rattle.linerules.proofs.range.out_of_range.Tie as tie
 

@@ -1,7 +1,7 @@
 -- Each return is the definition at the tests on the way.
-use Rattle.policy.specs.Range.{outOfRange}
 use borrow.Author.Needs.{needs}
 use borrow.Author.Tests.{le-leb, lt-leb}
+use Rattle.policy.specs.Range.{outOfRange}
 use Rattle.linerules.proofs.range.partition_outside.Statement.{statement}
 use Rattle.linerules.proofs.range.partition_outside.Tie as tie
 

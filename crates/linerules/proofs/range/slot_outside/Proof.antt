@@ -1,6 +1,6 @@
 -- Each return is the definition at the tests on the way.
-use Rattle.policy.specs.Range.{outOfRange}
 use borrow.Author.Tests.{lt-ltb, le-ltb, le-leb, lt-leb}
+use Rattle.policy.specs.Range.{outOfRange}
 use Rattle.linerules.proofs.range.slot_outside.Statement.{statement}
 use Rattle.linerules.proofs.range.slot_outside.Tie as tie
 

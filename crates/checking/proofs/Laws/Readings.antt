@@ -1,0 +1,140 @@
+-- What every answer of reading a text has: a refusal names a line of the text, or none, and comes with the record of zeros; an accepted record is
+-- sound. By induction on the lines.
+use Prim.Native.Nat.{ℕ, zero, suc, _+_, _≤_, _<_}
+use mathlib.Core.Path.{_≡_, refl, sym, _∙_, ap}
+use mathlib.Core.Bool.{Bool, true, false, cond, true≢false}
+use mathlib.Core.List.{List, [], _∷_}
+use native.Mathlib.Omega.{arith}
+use borrow.Author.Tests.{ltb-false}
+use lib.Dec.{eqb, ltb}
+use lib.ListN.{length}
+use Rattle.text.specs.Cut.{cut, onto, lineEnd}
+use Rattle.text.specs.Lines.{linesOf, linesOfPieces}
+use Rattle.text.specs.declared.line.Line.{Line}
+use Rattle.policy.specs.declared.record.Policy.{Policy}
+use Rattle.policy.specs.declared.record.Draft.{Draft}
+use Rattle.policy.specs.declared.record.Reading.{Reading}
+use Rattle.policy.specs.declared.record.Refusal.{Refusal}
+use Rattle.policy.specs.declared.record.Refusal.the-variants.{Accepted, TooLong, Malformed, OutOfOrder, OutOfRange, Clash, Incomplete, CodeUnreadable, FlowMissing}
+use Rattle.policy.specs.Limits.{single}
+use Rattle.policy.specs.View.{View}
+use Rattle.policy.specs.Order.{outOfOrder}
+use Rattle.policy.specs.Range.{outOfRange}
+use Rattle.policy.specs.Clash.{clashes}
+use Rattle.policy.specs.Whole.{incomplete, codeUnreadable, flowMissing}
+use Rattle.policy.specs.Record.{zeros, viewOf}
+use Rattle.policy.specs.Draft.{begun, after}
+use Rattle.policy.specs.Refusals.{isAccepted, lineNumberOf}
+use Rattle.policy.specs.Read.{isBad, lineRefusal, wholeRefusal, answer, readLines, readOf}
+use Rattle.policy.specs.Sound.{Sound}
+use Rattle.policy.specs.Lawful.{Lawful}
+use Rattle.soundness.proofs.Accepted.{sound-lawful}
+use Rattle.report.specs.Reportable.{Countable, Reportable}
+
+-- How many lines a text has.
+cut-length : (l : List ℕ) → length (cut lineEnd l) ≤ length l + 1
+unfolding cut
+cut-length [] = omega arith
+cut-length (b ∷ l) = go (eqb b lineEnd) (cut lineEnd l) (cut-length l)
+  where
+    go : (t : Bool) (ps : List (List ℕ)) → length ps ≤ length l + 1 → length (cond t ([] ∷ ps) (onto b ps)) ≤ suc (length l) + 1
+    go true ps h = omega arith
+    go false [] h = omega arith
+    go false (p ∷ ps) h = omega arith
+
+pieces-length : (ps : List (List ℕ)) → length (linesOfPieces ps) ≤ length ps
+unfolding linesOfPieces
+pieces-length [] = omega arith
+pieces-length ([] ∷ []) = omega arith
+pieces-length ((b ∷ bs) ∷ []) = omega arith
+pieces-length (p ∷ q ∷ ps) = let h = pieces-length (q ∷ ps) in omega arith
+
+lines-length : (text : List ℕ) → length (linesOf text) ≤ length text + 1
+unfolding linesOf
+lines-length text = omega (arith, pieces-length (cut lineEnd text), cut-length text)
+
+-- What a refusal may name.
+whole-line : (v : View) → lineNumberOf (wholeRefusal v) ≡ 0
+unfolding wholeRefusal
+whole-line v = go (incomplete v) (codeUnreadable v) (flowMissing v)
+  where
+    go : (a b c : Bool) → lineNumberOf (cond a Incomplete (cond b CodeUnreadable (cond c FlowMissing Accepted))) ≡ 0
+    go true b c = refl
+    go false true c = refl
+    go false false true = refl
+    go false false false = refl
+
+line-line : (n : ℕ) (d : Draft) (line : Line) → lineNumberOf (lineRefusal single n d line) ≤ n
+unfolding lineRefusal
+line-line n d line = go (isBad line) (outOfOrder (d .before) (viewOf (d .policy)) line) (outOfRange single (viewOf (d .policy)) line) (clashes (viewOf (d .policy)) line)
+  where
+    go : (a b c e : Bool) → lineNumberOf (cond a (Malformed n) (cond b (OutOfOrder n) (cond c (OutOfRange n) (cond e (Clash n) Accepted)))) ≤ n
+    go true b c e = omega arith
+    go false true c e = omega arith
+    go false false true e = omega arith
+    go false false false true = omega arith
+    go false false false false = omega arith
+
+-- What holds of an answer after the lines from the n-th on.
+record Answered (n : ℕ) (lines : List Line) (r : Reading) : Type 0 where
+  named : lineNumberOf (r .refusal) ≤ n + length lines
+  empty : isAccepted (r .refusal) ≡ false → r .policy ≡ zeros
+
+answered : (lines : List Line) (n : ℕ) (d : Draft) → Answered n lines (readLines single n d lines)
+unfolding readLines
+answered [] n d =
+    record {
+      named = rw (whole-line (viewOf (d .policy))) (omega arith);
+      empty = λ h. rw h;
+    }
+answered (line ∷ lines) n d = go (isAccepted (lineRefusal single n d line)) refl (answered lines (n + 1) (after d line))
+  where
+    rest : Reading
+    rest = readLines single (n + 1) (after d line) lines
+
+    go : (b : Bool) → isAccepted (lineRefusal single n d line) ≡ b → Answered (n + 1) lines rest → Answered n (line ∷ lines) (cond b rest (answer (lineRefusal single n d line) zeros))
+    go true e h = record { named = omega (arith, h .named); empty = h .empty }
+    go false e h = record { named = omega (arith, line-line n d line); empty = λ f. rw e }
+
+whole-answered : (text : List ℕ) (b : Bool) → ltb (single .text) (length text) ≡ b → Answered 16386 [] (cond b (answer TooLong zeros) (readLines single 1 begun (linesOf text)))
+whole-answered text true e = record { named = omega arith; empty = λ h. refl }
+whole-answered text false e =
+    let h = answered (linesOf text) 1 begun in
+    record { named = omega (arith, h .named, lines-length text, ltb-false 16384 (length text) e); empty = h .empty }
+
+text-answered : (text : List ℕ) → Answered 16386 [] (readOf single text)
+unfolding readOf
+text-answered text = whole-answered text (ltb (single .text) (length text)) refl
+
+-- "A refusal returns number, line and the record of zeros."
+pub refused-zeros : (text : List ℕ) → isAccepted (readOf single text .refusal) ≡ false → readOf single text .policy ≡ zeros
+refused-zeros text = text-answered text .empty
+
+is-accepted : (r : Refusal) → isAccepted r ≡ true → r ≡ Accepted
+is-accepted Accepted h = refl
+is-accepted TooLong h = absurd (true≢false (sym h))
+is-accepted (Malformed n) h = absurd (true≢false (sym h))
+is-accepted (OutOfOrder n) h = absurd (true≢false (sym h))
+is-accepted (OutOfRange n) h = absurd (true≢false (sym h))
+is-accepted (Clash n) h = absurd (true≢false (sym h))
+is-accepted Incomplete h = absurd (true≢false (sym h))
+is-accepted CodeUnreadable h = absurd (true≢false (sym h))
+is-accepted FlowMissing h = absurd (true≢false (sym h))
+
+pub accepted-sound : (text : List ℕ) → isAccepted (readOf single text .refusal) ≡ true → Sound (readOf single text .policy)
+accepted-sound text h = record { text = text; gives = ap (λ (r : Refusal). record { refusal = r; policy = readOf single text .policy }) (is-accepted (readOf single text .refusal) h) }
+
+countable : (text : List ℕ) (b : Bool) → isAccepted (readOf single text .refusal) ≡ b → Countable (viewOf (readOf single text .policy))
+countable text true e =
+    let w = sound-lawful _ (accepted-sound text e) in
+    record { few-segments = w .few-segments; few-partitions = w .few-partitions; few-slots = w .few-slots; ticks-most = w .ticks-most }
+countable text false e =
+    rw (refused-zeros text e)
+    (record { few-segments = omega arith; few-partitions = omega arith; few-slots = omega arith; ticks-most = λ i l. absurd (omega arith) })
+
+pub reportable : (text : List ℕ) → Reportable (readOf single text)
+reportable text =
+    record {
+      counts = countable text (isAccepted (readOf single text .refusal)) refl;
+      line-short = omega (arith, text-answered text .named);
+    }
