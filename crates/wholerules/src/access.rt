@@ -7,6 +7,7 @@ ghost use Rattle.policy.specs.Record.{givesRead, givesWrite, pairAt};
 ghost use Rattle.policy.specs.Access.{readable, writable};
 ghost use Rattle.wholerules.specs.Parts.{reachOf};
 
+// An entry, or 0 past the end.
 pub fn byte_at(a: &[u8], i: usize) -> u8
     ensures { λ r. ⌜ r ≡ getD (now (a .entry)) i 0 ⌝ }
 {

@@ -11,7 +11,8 @@ use crate::access::pair_at;
 
 // Whether p may read s, and "flow s t" is missing.
 fn source_lacks<'a>(save: &'a [u8], rights: &'a [u8], flows: &'a [u8], p: u8, t: u8, s: u8) -> bool
-    ensures { λ r. ⌜ r ≡ sourceLacks (reachOf (now (save .entry)) (now (rights .entry)) (now (flows .entry))) p t s ⌝ }
+    ensures { λ r.
+        ⌜ r ≡ sourceLacks (reachOf (now (save .entry)) (now (rights .entry)) (now (flows .entry))) p t s ⌝ }
 {
     if may_read(save, rights, p, s) {
         if s == t {

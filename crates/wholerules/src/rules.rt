@@ -58,7 +58,8 @@ pub fn lent_refusal<'a>(
     ensures { λ r.
         ⌜
         r ≡ wholeRefusal
-        (partsOf segments partitions slots (now (code .entry)) (now (save .entry)) (now (rights .entry)) (now (flows .entry)))
+        (partsOf segments partitions slots (now (code .entry)) (now (save .entry)) (now (rights .entry))
+        (now (flows .entry)))
         ⌝ }
 {
     if is_incomplete(segments, partitions, slots) {

@@ -28,7 +28,7 @@ use Rattle.policy.specs.Refusals.{isAccepted, lineNumberOf}
 use Rattle.policy.specs.Read.{isBad, lineRefusal, wholeRefusal, answer, readLines, readOf}
 use Rattle.policy.specs.Sound.{Sound}
 use Rattle.policy.specs.Lawful.{Lawful}
-use Rattle.soundness.proofs.Accepted.{sound-lawful}
+use Rattle.policy.proofs.Accepted.{sound-lawful}
 use Rattle.report.specs.Reportable.{Countable, Reportable}
 
 -- How many lines a text has.

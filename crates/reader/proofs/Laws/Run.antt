@@ -24,8 +24,8 @@ use Rattle.policy.specs.Record.{zeros, viewOf}
 use Rattle.policy.specs.Draft.{added, begun, after}
 use Rattle.policy.specs.Refusals.{isAccepted}
 use Rattle.policy.specs.Read.{lineRefusal, wholeRefusal, answer, readLines}
-use Rattle.soundness.proofs.Kept.{Kept, kept-none}
-use Rattle.soundness.proofs.Accepted.{fine, kept-after}
+use Rattle.policy.proofs.Kept.{Kept, kept-none}
+use Rattle.policy.proofs.Accepted.{fine, kept-after}
 use Rattle.lexer.proofs.Laws.Cut.{end-least}
 use Rattle.reader.proofs.Laws.Lines.{linesFrom, lineFrom, lines-all, line-next, line-open, lines-end}
 

@@ -22,7 +22,7 @@ use Rattle.policy.specs.Draft.{added, begun}
 use Rattle.policy.specs.Refusals.{isAccepted}
 use Rattle.policy.specs.Read.{lineRefusal, answer, readLines}
 use Rattle.policy.proofs.Laws.Bools.{or-left, or-right}
-use Rattle.soundness.proofs.Accepted.{fine}
+use Rattle.policy.proofs.Accepted.{fine}
 use Rattle.linerules.specs.Parts.{partDraft, modeOf, Fits}
 use Rattle.linerules.proofs.Laws.Parts.{part-same}
 use Rattle.reader.proofs.Laws.Lines.{lineFrom}

@@ -1,7 +1,7 @@
 -- Whether some pair passes a test does not depend on which of the two is looked for first: by induction on one bound, and on the other
 -- for a test that is a sum.
 use Prim.Native.Nat.{ℕ, zero, suc}
-use mathlib.Core.Path.{_≡_, refl, sym, _∙_, ap}
+use mathlib.Core.Path.{_≡_, refl, sym}
 use mathlib.Core.Bool.{Bool, true, false, _||_}
 use Rattle.policy.specs.Below.{someBelow}
 use Rattle.policy.proofs.Laws.Below.{none-of}

@@ -1,8 +1,8 @@
 -- Whether p may write t is asked once for all sources: where it may not, none of them is asked for a flow line. And the rule may be asked
 -- by target first.
 use Prim.Native.Nat.{ℕ}
-use mathlib.Core.Path.{_≡_, refl, sym}
-use mathlib.Core.Bool.{Bool, true, false}
+use mathlib.Core.Path.{_≡_, sym}
+use mathlib.Core.Bool.{true, false}
 use Rattle.policy.specs.Below.{someBelow}
 use Rattle.policy.specs.View.{View}
 use Rattle.policy.specs.Access.{writable}

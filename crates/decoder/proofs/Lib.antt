@@ -1,0 +1,2 @@
+-- What holds of every decoded instruction.
+pub mod Laws

@@ -1,0 +1,105 @@
+// Four bytes of code to an instruction: the opcode's registers are tested against a table, then the opcode is matched.
+ghost use mathlib.Core.Path.{_≡_};
+ghost use Prim.Native.Nat.{_+_, _*_};
+ghost use lib.ListN.{getD};
+ghost use Rattle.machine.specs.Decode.{registerMasks, operandFits, operandsFit, kindOf, decodeOf, fetched};
+use machine::Decoded;
+use machine::Instr;
+
+fn number(b: u8, c: u8) -> u16
+    ensures { λ r. ⌜ r ≡ b + 256 * c ⌝ }
+{
+    b as u16 + 256 * (c as u16)
+}
+
+// An opcode past the table is no instruction, whatever its operands.
+fn kind(op: u8, a: u8, b: u8, c: u8) -> Decoded
+    ensures { λ r. ⌜ r ≡ kindOf op a b c ⌝ }
+{
+    let n = number(b, c);
+    match op {
+        0 => Decoded::Runs(Instr::Halt),
+        1 => Decoded::Runs(Instr::Set(a, n)),
+        2 => Decoded::Runs(Instr::Add(a, b, c)),
+        3 => Decoded::Runs(Instr::Sub(a, b, c)),
+        4 => Decoded::Runs(Instr::And(a, b, c)),
+        5 => Decoded::Runs(Instr::Xor(a, b, c)),
+        6 => Decoded::Runs(Instr::Shift(a, b, c)),
+        7 => Decoded::Runs(Instr::Load(a, b, c)),
+        8 => Decoded::Runs(Instr::Store(a, b, c)),
+        9 => Decoded::Runs(Instr::Jump(a, n)),
+        10 => Decoded::Runs(Instr::Wait),
+        11 => Decoded::Runs(Instr::Listen(a, n)),
+        12 => Decoded::Runs(Instr::Back),
+        13..=255 => Decoded::Bad,
+    }
+}
+
+// By opcode, which operand bytes must be registers: 1 for a, 2 for b, 4 for c.
+const REGISTERS: [u8; 13] = [0, 1, 7, 7, 7, 7, 7, 3, 3, 1, 0, 0, 0];
+
+// Past the table no operand must be a register.
+fn mask_of(op: u8) -> u8
+    ensures { λ r. ⌜ r ≡ getD registerMasks op 0 ⌝ }
+{
+    let i = op as usize;
+    if i < 13 {
+        return REGISTERS[i];
+    }
+    0
+}
+
+fn operand_fits(bit: u8, operand: u8) -> bool
+    ensures { λ r. ⌜ r ≡ operandFits bit operand ⌝ }
+{
+    bit == 0 || operand < 8
+}
+
+fn operands_fit(mask: u8, a: u8, b: u8, c: u8) -> bool
+    ensures { λ r. ⌜ r ≡ operandsFit mask a b c ⌝ }
+{
+    if operand_fits(mask & 1, a) {
+        if operand_fits(mask & 2, b) {
+            return operand_fits(mask & 4, c);
+        }
+        return false;
+    }
+    false
+}
+
+// The instruction of four bytes; a bad opcode or register is another answer.
+pub fn decode(op: u8, a: u8, b: u8, c: u8) -> Decoded
+    ensures { λ r. ⌜ r ≡ decodeOf op a b c ⌝ }
+{
+    if operands_fit(mask_of(op), a, b, c) {
+        kind(op, a, b, c)
+    } else {
+        Decoded::Bad
+    }
+}
+
+// Past the end there are zeros.
+fn byte_at(code: &[u8], at: usize) -> u8
+    ensures { λ r. ⌜ r ≡ getD (now (code .entry)) at 0 ⌝ }
+{
+    if at < code.len() { code[at] } else { 0 }
+}
+
+fn wide(x: u16) -> usize
+    ensures { λ r. ⌜ r ≡ x ⌝ }
+{
+    x as usize
+}
+
+// The instruction at a place of the code segment, which is lent.
+pub fn fetch(code: &[u8], at: u16) -> Decoded
+    ensures { λ r. ⌜ r ≡ fetched (now (code .entry)) at ⌝ }
+{
+    let i = wide(at);
+    decode(
+        byte_at(code, i),
+        byte_at(code, i + 1),
+        byte_at(code, i + 2),
+        byte_at(code, i + 3),
+    )
+}

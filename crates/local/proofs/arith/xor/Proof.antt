@@ -1,0 +1,31 @@
+-- The exclusive or of the two registers read is the result.
+use Rattle.machine.specs.Local.{xors}
+use borrow.Author.Needs.{needs}
+use Rattle.local.proofs.arith.xor.Statement.{statement}
+use Rattle.local.proofs.arith.xor.Tie as tie
+
+get-register-requires : tie.Need-get-register-requires
+get-register-requires c κs = search needs
+
+get-register-requires-2 : tie.Need-get-register-requires-2
+get-register-requires-2 c κs = search needs
+
+put-result-requires : tie.Need-put-result-requires
+put-result-requires c κs = search needs
+
+same-length : tie.Need-same-length
+same-length c = search needs
+
+returns : tie.Need-returns
+unfolding xors
+returns c = cc
+
+pub xor-spec : {M : Type 1} → statement M
+xor-spec =
+    tie.close
+    (tie.spec
+    get-register-requires
+    get-register-requires-2
+    put-result-requires
+    same-length
+    returns)

@@ -1,0 +1,25 @@
+-- The word is put, then the counter moved, as the definition does.
+use Rattle.machine.specs.Local.{resulted}
+use borrow.Author.Needs.{needs}
+use Rattle.savearea.proofs.step.put_result.Statement.{statement}
+use Rattle.savearea.proofs.step.put_result.Tie as tie
+
+place-requires : tie.Need-place-requires
+place-requires c κs = search needs
+
+put-word-requires : tie.Need-put-word-requires
+put-word-requires c κs = search needs
+
+advance-requires : tie.Need-advance-requires
+advance-requires c κs = search needs
+
+same-length : tie.Need-same-length
+same-length c = search needs
+
+returns : tie.Need-returns
+unfolding resulted
+returns c = cc
+
+pub put-result-spec : {M : Type 1} → statement M
+put-result-spec =
+    tie.close (tie.spec place-requires put-word-requires advance-requires same-length returns)

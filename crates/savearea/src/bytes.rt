@@ -1,0 +1,87 @@
+// Bytes, and numbers of two and of four bytes, lowest byte first.
+ghost use mathlib.Core.Path.{_≡_};
+ghost use Prim.Native.Nat.{_+_, _*_, _/_, _%_, _<_};
+ghost use lib.ListN.{getD, set};
+ghost use Rattle.machine.specs.Bytes.{half, word, withHalf, withWord};
+
+// The byte at a place, and 0 past the end.
+pub fn byte_at(s: &[u8], at: usize) -> u8
+    ensures { λ r. ⌜ r ≡ getD (now (s .entry)) at 0 ⌝ }
+{
+    if at < s.len() {
+        return s[at];
+    }
+    0
+}
+
+// The byte at a place becomes b; past the end nothing changes.
+pub fn put(s: &mut [u8], at: usize, b: u8)
+    ensures { λ _. ⌜ now (s .exit) ≡ set (now (s .entry)) at b ⌝ }
+{
+    if at < s.len() {
+        s[at] = b;
+    }
+}
+
+fn paired(a: u8, b: u8) -> u16
+    ensures { λ r. ⌜ r ≡ a + b * 256 ⌝ }
+{
+    a as u16 + (b as u16) * 256
+}
+
+fn joined(a: u8, b: u8, c: u8, d: u8) -> u32
+    ensures { λ r. ⌜ r ≡ a + b * 256 + c * 65536 + d * 16777216 ⌝ }
+{
+    a as u32 + (b as u32) * 256 + (c as u32) * 65536 + (d as u32) * 16777216
+}
+
+fn low(n: u32) -> u8
+    ensures { λ r. ⌜ r ≡ n % 256 ⌝ }
+{
+    (n % 256) as u8
+}
+
+fn digit(n: u32, worth: u32) -> u8
+    requires { ⌜ 0 < worth ⌝ }
+    ensures { λ r. ⌜ r ≡ n / worth % 256 ⌝ }
+{
+    (n / worth % 256) as u8
+}
+
+pub fn get_half(s: &[u8], at: u16) -> u16
+    ensures { λ r. ⌜ r ≡ half (now (s .entry)) at ⌝ }
+{
+    let i = at as usize;
+    paired(byte_at(s, i), byte_at(s, i + 1))
+}
+
+pub fn get_word(s: &[u8], at: u16) -> u32
+    ensures { λ r. ⌜ r ≡ word (now (s .entry)) at ⌝ }
+{
+    let i = at as usize;
+    joined(
+        byte_at(s, i),
+        byte_at(s, i + 1),
+        byte_at(s, i + 2),
+        byte_at(s, i + 3),
+    )
+}
+
+// A u32, so that no caller has to bound the number: it is kept modulo 65,536.
+pub fn put_half(s: &mut [u8], at: u16, n: u32)
+    ensures { λ _. ⌜ now (s .exit) ≡ withHalf (now (s .entry)) at n ⌝ }
+{
+    let i = at as usize;
+    put(s, i, low(n));
+    put(s, i + 1, digit(n, 256));
+}
+
+pub fn put_word(s: &mut [u8], at: u16, n: u32)
+    ensures { λ _. ⌜ now (s .exit) ≡ withWord (now (s .entry)) at n ⌝ }
+{
+    let i = at as usize;
+    put(s, i, low(n));
+    put(s, i + 1, digit(n, 256));
+    put(s, i + 2, digit(n, 65536));
+    put(s, i + 3, digit(n, 16777216));
+}

@@ -1,0 +1,26 @@
+-- A loop that tests each number below a bound: what holds on its three ways. `good` is what the code's test answered.
+use Prim.Native.Nat.{ℕ, _+_, _<_, _≤_}
+use mathlib.Core.Path.{_≡_, refl, sym, _∙_}
+use mathlib.Core.Bool.{Bool, true, false, not}
+use native.Mathlib.Omega.{arith}
+use borrow.Author.Tests.{not-true, not-false}
+use Rattle.policy.specs.Below.{eachBelow}
+use Rattle.policy.proofs.Laws.Below.{each-more, each-fails}
+
+-- Before the loop's i-th turn: each below i passes.
+abbrev pub Tested : ℕ → (ℕ → Bool) → ℕ → Type 0
+Tested n f i = (i ≤ n) × (eachBelow i f ≡ true)
+
+pub test-none : (n : ℕ) (f : ℕ → Bool) → Tested n f 0
+unfolding eachBelow
+test-none n f = (omega arith, refl)
+
+module _ (n : ℕ) (f : ℕ → Bool) (i : ℕ) where
+  pub test-found : (good : Bool) → i < n → good ≡ f i → not good ≡ true → false ≡ eachBelow n f
+  test-found good l e h = sym (each-fails f n i l (sym e ∙ not-true good h))
+
+  pub test-more : (good : Bool) → Tested n f i → i < n → good ≡ f i → not good ≡ false → Tested n f (i + 1)
+  test-more good t l e h = (omega arith, each-more f i (t .1) (sym e ∙ not-false good h))
+
+  pub test-done : Tested n f i → n ≤ i → true ≡ eachBelow n f
+  test-done t l = let e : n ≡ i = omega arith in rw e (sym (t .1))

@@ -1,0 +1,2 @@
+-- Laws of the definitions, one subject a file.
+pub mod Laws
