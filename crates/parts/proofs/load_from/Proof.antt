@@ -1,0 +1,98 @@
+-- The offset is read first, and the code's two cases are those of `loadedFrom`.
+use native.Mathlib.Nat.{add-sub-cancel-left}
+use borrow.Author.Tests.{lt-ltb, le-ltb}
+use Rattle.parts.specs.Parts.{loadedFrom}
+use borrow.Author.Needs.{needs}
+use Rattle.parts.proofs.load_from.Statement.{statement}
+use Rattle.parts.proofs.load_from.Tie as tie
+
+get-register-requires : tie.Need-get-register-requires
+get-register-requires c κs = search needs
+
+cast-at : tie.Need-cast-at
+cast-at c = search needs
+
+fault-requires : tie.Need-fault-requires
+fault-requires c κs = search needs
+
+same-length : tie.Need-same-length
+same-length c = search needs
+
+returns : tie.Need-returns
+unfolding loadedFrom
+returns c =
+    let i = c .before .before .before .before in
+    rw (c .before .before .fault .ensures, ← i .before .get-register .ensures, le-ltb _ _ (i .if1 .taken))
+
+add-end : tie.Need-add-end
+add-end c = search needs
+
+sub-byte-at : tie.Need-sub-byte-at
+sub-byte-at c = search needs
+
+part-byte-at-start : tie.Need-part-byte-at-start
+part-byte-at-start c = search needs
+
+part-byte-at-end : tie.Need-part-byte-at-end
+part-byte-at-end c = search needs
+
+byte-at-requires : tie.Need-byte-at-requires
+byte-at-requires c κs = search needs
+
+cast-x : tie.Need-cast-x
+cast-x c = search needs
+
+add-to : tie.Need-add-to
+add-to c = search needs
+
+sub-put-result : tie.Need-sub-put-result
+sub-put-result c = search needs
+
+part-put-result-start : tie.Need-part-put-result-start
+part-put-result-start c = search needs
+
+part-put-result-end : tie.Need-part-put-result-end
+part-put-result-end c = search needs
+
+put-result-requires : tie.Need-put-result-requires
+put-result-requires c κs = search needs
+
+same-length-2 : tie.Need-same-length-2
+same-length-2 c = search needs
+
+returns-2 : tie.Need-returns-2
+unfolding loadedFrom
+returns-2 c =
+    let b = c .before .before .before .before in
+    let i = b .before .before .before in
+    rw (
+      c .before .before .put-result .ensures,
+      add-sub-cancel-left,
+      ← i .before .get-register .ensures,
+      lt-ltb _ _ (i .if1 .left),
+      b .byte-at .ensures,
+      add-sub-cancel-left,
+    )
+
+pub load-from-spec : {M : Type 1} → statement M
+load-from-spec =
+    tie.close
+    (tie.spec
+    get-register-requires
+    cast-at
+    fault-requires
+    same-length
+    returns
+    add-end
+    sub-byte-at
+    part-byte-at-start
+    part-byte-at-end
+    byte-at-requires
+    cast-x
+    add-to
+    sub-put-result
+    part-put-result-start
+    part-put-result-end
+    put-result-requires
+    same-length-2
+    returns-2)

@@ -1,0 +1,70 @@
+-- Both registers are read first, the save bytes are put and then the byte, as in `storedTo`.
+use borrow.Author.Tests.{lt-ltb, le-ltb}
+use Rattle.parts.specs.Parts.{storedTo}
+use borrow.Author.Needs.{needs}
+use Rattle.parts.proofs.store_to.Statement.{statement}
+use Rattle.parts.proofs.store_to.Tie as tie
+
+get-register-requires : tie.Need-get-register-requires
+get-register-requires c κs = search needs
+
+cast-at : tie.Need-cast-at
+cast-at c = search needs
+
+get-register-requires-2 : tie.Need-get-register-requires-2
+get-register-requires-2 c κs = search needs
+
+low-requires : tie.Need-low-requires
+low-requires c κs = search needs
+
+advance-requires : tie.Need-advance-requires
+advance-requires c κs = search needs
+
+store-at-requires : tie.Need-store-at-requires
+store-at-requires c κs = search needs
+
+fault-requires : tie.Need-fault-requires
+fault-requires c κs = search needs
+
+same-length : tie.Need-same-length
+same-length c = search needs
+
+returns : tie.Need-returns
+unfolding storedTo
+returns c =
+    let a = c .before .before .before .before .before .before in
+    let i = a .before .before in
+    let l = i .before in
+    rw (
+      c .before .before .store-at .ensures,
+      a .advance .ensures,
+      l .low .ensures,
+      l .before .get-register2 .ensures,
+      ← l .before .before .before .get-register .ensures,
+      lt-ltb _ _ (i .if1 .taken),
+    )
+
+same-length-2 : tie.Need-same-length-2
+same-length-2 c = search needs
+
+returns-2 : tie.Need-returns-2
+unfolding storedTo
+returns-2 c =
+    let i = c .before .before .before .before in
+    rw (c .before .before .fault .ensures, ← i .before .before .before .before .get-register .ensures, le-ltb _ _ (i .if1 .left))
+
+pub store-to-spec : {M : Type 1} → statement M
+store-to-spec =
+    tie.close
+    (tie.spec
+    get-register-requires
+    cast-at
+    get-register-requires-2
+    low-requires
+    advance-requires
+    store-at-requires
+    fault-requires
+    same-length
+    returns
+    same-length-2
+    returns-2)

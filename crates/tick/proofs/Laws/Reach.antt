@@ -1,0 +1,44 @@
+-- What a segment that is reached, or that is the save segment, has of memory; and a store's effect, applied, is the store by numbers, since
+-- both put the save bytes first.
+use Prim.Native.Nat.{ℕ, _+_, _%_, _≤_, _<_}
+use native.Mathlib.Omega.{arith}
+use mathlib.Core.Path.{_≡_, sym, _∙_}
+use mathlib.Core.Bool.{Bool, true}
+use mathlib.Core.List.{List, [], _∷_}
+use lib.Dec.{ltb}
+use lib.ListN.{getD}
+use Rattle.machine.specs.declared.Fault.the-variants.{OffsetOver}
+use Rattle.machine.specs.Save.{register}
+use Rattle.machine.specs.Faults.{faults}
+use Rattle.machine.specs.Local.{advanced}
+use Rattle.machine.specs.Tick.{Seat, reaches, mayStore, storesByte, applied, stores, saves}
+use Rattle.machine.proofs.Laws.Tests.{applied-cond, reaches-there}
+use Rattle.tick.specs.Seat.{Inside, Fits}
+use Rattle.parts.specs.Parts.{savedAt, storedTo}
+use Rattle.tick.specs.Done.{stored}
+
+-- A test's answer, and that it was yes: as a caller of `may` has them.
+module _ {base size : List ℕ} {segments row whole : ℕ} (f : Inside base size segments row whole)
+    (answer given : Bool) (c : ℕ) (told : answer ≡ reaches segments given c) (granted : answer ≡ true) where
+  reached : c < segments
+  reached = reaches-there segments given c (sym told ∙ granted)
+
+  pub reach-few : c < 32
+  reach-few = omega (arith, f .few, reached)
+
+  pub reach-inside : getD base c 0 + getD size c 0 ≤ whole
+  reach-inside = f .inside c reached
+
+pub save-inside : {base size : List ℕ} {segments row code save whole : ℕ} → Fits base size segments row code save whole → getD base save 0 + 44 ≤ whole
+save-inside {base} {size} {segments} {row} {code} {save} {whole} f = rw (← f .save-size) (f .every .inside save (f .save-there))
+
+pub stored-to : (S : Seat) (m : List ℕ) (from a b c : ℕ) (answer : Bool) → answer ≡ mayStore S c → answer ≡ true
+    → stored S from m a b c ≡ storedTo m from (S .base c) (S .size c) a b
+unfolding storesByte storedTo
+stored-to S m from a b c answer told granted =
+    let s = savedAt m from in
+    rw (sym told ∙ granted)
+    (applied-cond S from (ltb (register s b) (S .size c))
+    (stores (advanced s) c (register s b) (register s a % 256 ∷ []))
+    (saves (faults s OffsetOver))
+    m)

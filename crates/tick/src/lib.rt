@@ -1,0 +1,173 @@
+// One tick of a partition over memory and the arrays of a policy record, all lent. A fetch or a load is lent one
+// segment, a store that segment alone.
+mod reach;
+
+use crate::reach::READ;
+use crate::reach::WRITE;
+use crate::reach::entry;
+use crate::reach::may;
+use machine::Decoded;
+use machine::Fault;
+use machine::Instr;
+use parts::SAVED;
+use parts::fault;
+use parts::fetch;
+use parts::get_counter;
+use parts::interrupt;
+use parts::is_ready;
+use parts::load_from;
+use parts::store_to;
+use parts::takes_interrupt;
+ghost use mathlib.Core.Path.{_≡_};
+ghost use Prim.Native.Nat.{_+_, _≤_};
+ghost use lib.ListN.{length};
+ghost use Rattle.machine.specs.Tick.{ticked};
+ghost use Rattle.tick.specs.Seat.{seatOf, Inside, Fits};
+ghost use Rattle.tick.specs.Done.{loaded, stored, acted, obeyed, stepped};
+
+fn load<'a>(
+    memory: &mut [u8],
+    base: &'a [u16; 32],
+    size: &'a [u16; 32],
+    rights: &'a [u8; 256],
+    segments: u8,
+    row: u16,
+    from: usize,
+    a: u8,
+    b: u8,
+    c: u8,
+)
+    requires { ⌜ from + 44 ≤ length (now memory) ⌝ }
+    requires { ⌜ Inside (now base) (now size) segments row (length (now memory)) ⌝ }
+    ensures { λ _. ⌜ now (memory .exit) ≡ loaded (seatOf (now (base .entry)) (now (size .entry)) (now (rights .entry)) segments row) from (now (memory .entry)) a b c ⌝ }
+{
+    if may(rights, segments, row, READ, c) {
+        load_from(memory, from, entry(base, c), entry(size, c), a, b);
+    } else {
+        fault(memory, from, Fault::NoRight);
+    }
+}
+
+fn store<'a>(
+    memory: &mut [u8],
+    base: &'a [u16; 32],
+    size: &'a [u16; 32],
+    rights: &'a [u8; 256],
+    segments: u8,
+    row: u16,
+    from: usize,
+    a: u8,
+    b: u8,
+    c: u8,
+)
+    requires { ⌜ from + 44 ≤ length (now memory) ⌝ }
+    requires { ⌜ Inside (now base) (now size) segments row (length (now memory)) ⌝ }
+    ensures { λ _. ⌜ now (memory .exit) ≡ stored (seatOf (now (base .entry)) (now (size .entry)) (now (rights .entry)) segments row) from (now (memory .entry)) a b c ⌝ }
+{
+    if may(rights, segments, row, WRITE, c) {
+        store_to(memory, from, entry(base, c), entry(size, c), a, b);
+    } else {
+        fault(memory, from, Fault::NoRight);
+    }
+}
+
+fn execute<'a>(
+    memory: &mut [u8],
+    base: &'a [u16; 32],
+    size: &'a [u16; 32],
+    rights: &'a [u8; 256],
+    segments: u8,
+    row: u16,
+    from: usize,
+    i: Instr,
+)
+    requires { ⌜ from + 44 ≤ length (now memory) ⌝ }
+    requires { ⌜ Inside (now base) (now size) segments row (length (now memory)) ⌝ }
+    ensures { λ _. ⌜ now (memory .exit) ≡ acted (seatOf (now (base .entry)) (now (size .entry)) (now (rights .entry)) segments row) from (now (memory .entry)) i ⌝ }
+{
+    let to = from + SAVED;
+    match i {
+        Instr::Halt => local::halt(&mut memory[from..to]),
+        Instr::Set(a, n) => local::set_register(&mut memory[from..to], a, n),
+        Instr::Add(a, b, c) => local::add(&mut memory[from..to], a, b, c),
+        Instr::Sub(a, b, c) => local::subtract(&mut memory[from..to], a, b, c),
+        Instr::And(a, b, c) => local::and(&mut memory[from..to], a, b, c),
+        Instr::Xor(a, b, c) => local::xor(&mut memory[from..to], a, b, c),
+        Instr::Shift(a, b, c) => local::shift(&mut memory[from..to], a, b, c),
+        Instr::Load(a, b, c) => load(memory, base, size, rights, segments, row, from, a, b, c),
+        Instr::Store(a, b, c) => store(memory, base, size, rights, segments, row, from, a, b, c),
+        Instr::Jump(a, n) => local::jump(&mut memory[from..to], a, n),
+        Instr::Wait => local::wait(&mut memory[from..to]),
+        Instr::Listen(a, n) => local::listen(&mut memory[from..to], a, n),
+        Instr::Back => local::back(&mut memory[from..to]),
+    }
+}
+
+fn obey<'a>(
+    memory: &mut [u8],
+    base: &'a [u16; 32],
+    size: &'a [u16; 32],
+    rights: &'a [u8; 256],
+    segments: u8,
+    row: u16,
+    from: usize,
+    d: Decoded,
+)
+    requires { ⌜ from + 44 ≤ length (now memory) ⌝ }
+    requires { ⌜ Inside (now base) (now size) segments row (length (now memory)) ⌝ }
+    ensures { λ _. ⌜ now (memory .exit) ≡ obeyed (seatOf (now (base .entry)) (now (size .entry)) (now (rights .entry)) segments row) from (now (memory .entry)) d ⌝ }
+{
+    match d {
+        Decoded::Runs(i) => execute(memory, base, size, rights, segments, row, from, i),
+        Decoded::Bad => fault(memory, from, Fault::BadInstruction),
+    }
+}
+
+fn step<'a>(
+    memory: &mut [u8],
+    base: &'a [u16; 32],
+    size: &'a [u16; 32],
+    rights: &'a [u8; 256],
+    segments: u8,
+    row: u16,
+    code: u8,
+    save: u8,
+)
+    requires { ⌜ Fits (now base) (now size) segments row code save (length (now memory)) ⌝ }
+    ensures { λ _. ⌜ now (memory .exit) ≡ stepped (seatOf (now (base .entry)) (now (size .entry)) (now (rights .entry)) segments row) code save (now (memory .entry)) ⌝ }
+{
+    let from = entry(base, save);
+    let start = entry(base, code);
+    let room = entry(size, code);
+    let pc = get_counter(memory, from);
+    if room < (pc as usize) + 4 {
+        fault(memory, from, Fault::CounterOver);
+    } else {
+        let d = fetch(memory, start, room, pc);
+        obey(memory, base, size, rights, segments, row, from, d);
+    }
+}
+
+// A tick of the partition with this code and this save segment, and its rights from `row` on.
+pub fn tick<'a>(
+    memory: &mut [u8],
+    base: &'a [u16; 32],
+    size: &'a [u16; 32],
+    rights: &'a [u8; 256],
+    segments: u8,
+    row: u16,
+    code: u8,
+    save: u8,
+)
+    requires { ⌜ Fits (now base) (now size) segments row code save (length (now memory)) ⌝ }
+    ensures { λ _. ⌜ now (memory .exit) ≡ ticked (seatOf (now (base .entry)) (now (size .entry)) (now (rights .entry)) segments row) code save (now (memory .entry)) ⌝ }
+{
+    let from = entry(base, save);
+    if takes_interrupt(memory, from) {
+        interrupt(memory, from);
+        return;
+    }
+    if is_ready(memory, from) {
+        step(memory, base, size, rights, segments, row, code, save);
+    }
+}
