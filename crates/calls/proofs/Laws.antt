@@ -1,0 +1,4 @@
+pub mod Bits
+pub mod Ticks
+pub mod Outcomes
+pub mod Pends

@@ -1,0 +1,52 @@
+-- 01, "The four operations and when they say no": the number of each answer, and the tests of the refusals that all three share.
+use Prim.Native.Nat.{ℕ}
+use mathlib.Core.Bool.{Bool, true, false, not, cond}
+use mathlib.Core.List.{List, [], _∷_}
+use lib.ListN.{length}
+use lib.Dec.{eqb}
+use Rattle.policy.specs.declared.record.Policy.{Policy}
+use Rattle.policy.specs.Limits.{Limits}
+use Rattle.policy.specs.Sound.{soundOf}
+use Rattle.calls.specs.declared.Outcome.{Outcome}
+use Rattle.calls.specs.declared.Outcome.the-variants.{Done, WrongMemory, Unsound, NoPartition, NoLine, NoPlace, TooManyTicks}
+
+-- "These three return number 0 when they act."
+abbrev pub outcomeNumber : Outcome → ℕ
+outcomeNumber Done = 0
+outcomeNumber WrongMemory = 9
+outcomeNumber Unsound = 10
+outcomeNumber NoPartition = 11
+outcomeNumber NoLine = 12
+outcomeNumber NoPlace = 13
+outcomeNumber TooManyTicks = 14
+
+abbrev pub isDone : Outcome → Bool
+isDone Done = true
+isDone WrongMemory = false
+isDone Unsound = false
+isDone NoPartition = false
+isDone NoLine = false
+isDone NoPlace = false
+isDone TooManyTicks = false
+
+-- A refusal, with the test whether it applies.
+pub record Test : Type 0 where
+  pub applies : Bool
+  pub outcome : Outcome
+
+-- The first of the refusals that applies, or that the operation acts.
+abbrev pub firstOf : List Test → Outcome
+firstOf [] = Done
+firstOf (t ∷ ts) = cond (t .applies) (t .outcome) (firstOf ts)
+
+-- "9: memory isn't 16,384 bytes"
+abbrev pub wrongMemory : Limits → List ℕ → Bool
+wrongMemory limits memory = not (eqb (length memory) (limits .memory))
+
+-- "10: the record is that of no accepted text"
+abbrev pub unsound : Policy → Bool
+unsound policy = not (soundOf policy)
+
+-- "When they refuse they return the number and change no byte of memory."
+abbrev pub acts {ℓ} : {A : Type ℓ} → Outcome → A → A → A
+acts outcome acted kept = cond (isDone outcome) acted kept

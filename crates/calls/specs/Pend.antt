@@ -1,0 +1,37 @@
+-- 01: "Pend a line. 9, 10, then 11: no such partition. 12: line above 7. Else that pended bit becomes 1 and no other bit of memory changes."
+use Prim.Native.Nat.{ℕ, _+_, _^_}
+use mathlib.Core.List.{List, [], _∷_}
+use lib.Bits.{bitOr}
+use lib.ListN.{getD, set}
+use lib.Dec.{leb, ltb}
+use Rattle.policy.specs.declared.record.Policy.{Policy}
+use Rattle.policy.specs.Limits.{single}
+use Rattle.policy.specs.View.{View}
+use Rattle.policy.specs.Record.{viewOf}
+use Rattle.machine.specs.Layout.{layout}
+use Rattle.calls.specs.declared.Outcome.{Outcome}
+use Rattle.calls.specs.declared.Outcome.the-variants.{WrongMemory, Unsound, NoPartition, NoLine}
+use Rattle.calls.specs.Outcomes.{firstOf, wrongMemory, unsound, acts}
+
+unfoldable pub pendOutcome : Policy → List ℕ → ℕ → ℕ → Outcome
+pendOutcome policy memory partition line =
+    firstOf
+    (record { applies = wrongMemory single memory; outcome = WrongMemory }
+    ∷ record { applies = unsound policy; outcome = Unsound }
+    ∷ record { applies = leb (policy .partitions) partition; outcome = NoPartition }
+    ∷ record { applies = ltb 7 line; outcome = NoLine }
+    ∷ [])
+
+-- Where the pended lines of a partition stand.
+abbrev pub pendedAt : View → ℕ → ℕ
+pendedAt v partition = v .base (v .save partition) + layout .pended
+
+-- "pended lines 36 .., one bit a line, line 0 the lowest"
+unfoldable pub pended : View → ℕ → ℕ → List ℕ → List ℕ
+pended v partition line memory =
+    set memory (pendedAt v partition) (bitOr (getD memory (pendedAt v partition) 0) (2 ^ line))
+
+-- Memory after a Pend.
+unfoldable pub afterPend : Policy → List ℕ → ℕ → ℕ → List ℕ
+afterPend policy memory partition line =
+    acts (pendOutcome policy memory partition line) (pended (viewOf policy) partition line memory) memory

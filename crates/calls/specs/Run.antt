@@ -1,0 +1,41 @@
+-- 01: "Run n ticks. 9, 10, then 13: slot not in the schedule, or ticks used at or past the slot's. 14: n over 10,000. Else n ticks are done and the
+-- new place is returned; n = 0 changes nothing."
+use Prim.Native.Nat.{ℕ, zero, suc}
+use mathlib.Core.Bool.{not}
+use mathlib.Core.List.{List, [], _∷_}
+use lib.Dec.{ltb}
+use Rattle.policy.specs.declared.record.Policy.{Policy}
+use Rattle.policy.specs.Limits.{single}
+use Rattle.policy.specs.View.{View}
+use Rattle.policy.specs.Record.{viewOf}
+use Rattle.machine.specs.declared.Place.{Place}
+use Rattle.machine.specs.Place.{isPlace}
+use Rattle.machine.specs.Machine.{State, next}
+use Rattle.calls.specs.declared.Outcome.{Outcome}
+use Rattle.calls.specs.declared.Outcome.the-variants.{WrongMemory, Unsound, NoPlace, TooManyTicks}
+use Rattle.calls.specs.declared.Placed.{Placed}
+use Rattle.calls.specs.Outcomes.{firstOf, wrongMemory, unsound, acts}
+
+abbrev pub stateOf : List ℕ → Place → State
+stateOf memory place = record { memory = memory; place = place }
+
+unfoldable pub runOutcome : Policy → State → ℕ → Outcome
+runOutcome policy x n =
+    firstOf
+    (record { applies = wrongMemory single (x .memory); outcome = WrongMemory }
+    ∷ record { applies = unsound policy; outcome = Unsound }
+    ∷ record { applies = not (isPlace (viewOf policy) (x .place)); outcome = NoPlace }
+    ∷ record { applies = ltb 10000 n; outcome = TooManyTicks }
+    ∷ [])
+
+-- n ticks, one after another.
+unfoldable pub ticked : View → ℕ → State → State
+ticked v zero x = x
+ticked v (suc n) x = ticked v n (next v x)
+
+-- Memory and place after a Run. "A refused Run returns the place it was given".
+unfoldable pub afterRun : Policy → State → ℕ → State
+afterRun policy x n = acts (runOutcome policy x n) (ticked (viewOf policy) n x) x
+
+unfoldable pub runAnswer : Policy → State → ℕ → Placed
+runAnswer policy x n = record { outcome = runOutcome policy x n; place = afterRun policy x n .place }

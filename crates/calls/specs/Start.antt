@@ -1,0 +1,36 @@
+-- 01: "Start. 9 .. 10 .. Else all save segments become zero, other bytes stay, and the place is slot 0 with 0 used."
+use Prim.Native.Nat.{ℕ, zero, suc}
+use mathlib.Core.List.{List, [], _∷_}
+use lib.ListN.{replicate}
+use Rattle.policy.specs.declared.record.Policy.{Policy}
+use Rattle.policy.specs.Limits.{single}
+use Rattle.policy.specs.View.{View}
+use Rattle.policy.specs.Record.{viewOf}
+use Rattle.machine.specs.Bytes.{withPart}
+use Rattle.machine.specs.Layout.{layout}
+use Rattle.machine.specs.Place.{placeOf}
+use Rattle.calls.specs.declared.Outcome.{Outcome}
+use Rattle.calls.specs.declared.Outcome.the-variants.{WrongMemory, Unsound}
+use Rattle.calls.specs.declared.Placed.{Placed}
+use Rattle.calls.specs.Outcomes.{firstOf, wrongMemory, unsound, acts}
+
+unfoldable pub startOutcome : Policy → List ℕ → Outcome
+startOutcome policy memory =
+    firstOf
+    (record { applies = wrongMemory single memory; outcome = WrongMemory }
+    ∷ record { applies = unsound policy; outcome = Unsound }
+    ∷ [])
+
+-- The save segments of the first n partitions become zero.
+unfoldable pub cleared : View → ℕ → List ℕ → List ℕ
+cleared v zero memory = memory
+cleared v (suc n) memory =
+    withPart (cleared v n memory) (v .base (v .save n)) (layout .size) (replicate (layout .size) 0)
+
+-- Memory after a Start.
+unfoldable pub afterStart : Policy → List ℕ → List ℕ
+afterStart policy memory = acts (startOutcome policy memory) (cleared (viewOf policy) (policy .partitions) memory) memory
+
+-- "a refused Start returns slot 0 with 0 used", and so does one that acts.
+unfoldable pub startAnswer : Policy → List ℕ → Placed
+startAnswer policy memory = record { outcome = startOutcome policy memory; place = placeOf 0 0 }
