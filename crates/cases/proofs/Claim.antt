@@ -1,7 +1,29 @@
 -- The definitions compute, so each case is its own proof.
+use lib.Count.{trailingZeros}
 use lib.Dec.{T}
+use Rattle.text.specs.Bytes.{same}
+use Rattle.text.specs.Cut.{cut}
+use Rattle.text.specs.Lines.{segmentLine, partitionLine, rightLine, flowLine, slotLine, wordOf, lineOf, linesOfPieces, linesOf}
+use Rattle.text.specs.Number.{allDigits, isNumber, valueFrom, number, letters}
+use Rattle.policy.specs.Below.{someBelow, eachBelow}
+use Rattle.policy.specs.Clash.{clashes}
+use Rattle.policy.specs.Draft.{added}
+use Rattle.policy.specs.Order.{outOfOrder}
+use Rattle.policy.specs.Range.{outOfRange}
+use Rattle.policy.specs.Read.{lineRefusal, wholeRefusal, readLines, readOf}
+use Rattle.policy.specs.Sound.{goodSegment, goodPartition, goodSlot, goodRight, goodFlow, allZero, isShaped, countsFit, unusedZero, linesHold, soundOf}
+use Rattle.policy.specs.Whole.{incomplete, codeUnreadable, flowMissing}
+use Rattle.machine.specs.Bytes.{half, word, withHalf, withWord}
+use Rattle.machine.specs.Decode.{operandFits, operandsFit, kindOf, decodeOf, fetched}
+use Rattle.machine.specs.Faults.{faults}
+use Rattle.machine.specs.Local.{advanced, resulted, halts, setsRegister, adds, subtracts, ands, xors, shifts, jumps, waits, listens, comesBack, takesInterrupt, entered, interrupted, isReady}
+use Rattle.machine.specs.Machine.{next}
+use Rattle.machine.specs.Place.{isPlace, moved}
+use Rattle.machine.specs.Tick.{reaches, looks, loads, storesByte, acts, obeys, steps, effect, ticked}
+use Rattle.calls.specs.Run.{runOutcome, ticked as calls-ticked, afterRun, runAnswer}
+use Rattle.calls.specs.Start.{startOutcome, cleared, afterStart, startAnswer}
 use Rattle.cases.specs.Cases.{allHold, cases, holds}
 
 pub claim : T (allHold cases)
-unfolding holds
+unfolding holds same cut segmentLine partitionLine rightLine flowLine slotLine wordOf lineOf linesOfPieces linesOf allDigits isNumber valueFrom number letters someBelow eachBelow clashes added outOfOrder outOfRange lineRefusal wholeRefusal readLines readOf goodSegment goodPartition goodSlot goodRight goodFlow allZero isShaped countsFit unusedZero linesHold soundOf incomplete codeUnreadable flowMissing half word withHalf withWord operandFits operandsFit kindOf decodeOf fetched faults advanced resulted halts setsRegister adds subtracts ands xors shifts jumps waits listens comesBack takesInterrupt entered interrupted isReady next isPlace moved reaches looks loads storesByte acts obeys steps effect ticked runOutcome calls-ticked afterRun runAnswer startOutcome cleared afterStart startAnswer trailingZeros
 claim = tt

@@ -2,31 +2,58 @@
 use Prim.Native.Nat.{ℕ, _+_, _-_}
 use mathlib.Core.Bool.{Bool, true, false, _&&_}
 use mathlib.Core.List.{List, [], _∷_, _++_}
-use lib.ListN.{length, take, drop, set}
+use lib.ListN.{length, getD, take, drop, set, replicate}
+use lib.Seq.{sets}
 use lib.Dec.{eqb}
 use Rattle.text.specs.Bytes.{bytesOf, same}
-use Rattle.text.specs.Cut.{cut}
-use Rattle.text.specs.Number.{number, letters, isNumber, allDigits, valueFrom}
-use Rattle.text.specs.Lines.{linesOf, linesOfPieces, lineOf, wordOf, segmentLine, partitionLine, rightLine, flowLine, slotLine}
-use Rattle.policy.specs.Below.{someBelow, eachBelow}
+use Rattle.policy.specs.declared.record.Policy.{Policy}
 use Rattle.policy.specs.Limits.{single}
-use Rattle.policy.specs.Order.{outOfOrder}
-use Rattle.policy.specs.Range.{outOfRange}
-use Rattle.policy.specs.Clash.{clashes}
-use Rattle.policy.specs.Whole.{incomplete, codeUnreadable, flowMissing}
-use Rattle.policy.specs.Draft.{added}
 use Rattle.policy.specs.Refusals.{numberOf, lineNumberOf}
-use Rattle.policy.specs.Read.{readOf, readLines, lineRefusal, wholeRefusal}
+use Rattle.policy.specs.Read.{readOf}
+use Rattle.machine.specs.Place.{placeOf}
+use Rattle.machine.specs.Machine.{State}
+use Rattle.calls.specs.Start.{afterStart}
+use Rattle.calls.specs.Run.{stateOf, afterRun}
 use Rattle.cases.specs.Demonstration.{joined, demonstration}
 
--- A text that is read, with the number and the line that reading it answers.
+-- Bytes from a place of memory on.
+pub record Bytes : Type 0 where
+  pub at : ℕ
+  pub are : List ℕ
+
+abbrev pub bytes : ℕ → List ℕ → Bytes
+bytes at are = record { at = at; are = are }
+
+abbrev pub with : List ℕ → List Bytes → List ℕ
+with memory [] = memory
+with memory (b ∷ bs) = with (sets memory (b .at) (b .are)) bs
+
+abbrev pub found : List ℕ → List Bytes → Bool
+found memory [] = true
+found memory (b ∷ bs) = same (take (length (b .are)) (drop (b .at) memory)) (b .are) && found memory bs
+
 pub data Case : Type 0 where
+  -- a text, and the number and the line that reading it answers
   reads : List ℕ → ℕ → ℕ → Case
+  -- under the demonstration policy: the bytes put into a memory of zeros before Start, those put after it, the ticks run from slot 0 with 0 used,
+  -- the bytes then found, and the slot and the ticks used then
+  runs : List Bytes → List Bytes → ℕ → List Bytes → ℕ → ℕ → Case
+
+abbrev pub policy : Policy
+policy = readOf single (joined demonstration) .policy
+
+-- The state after a Start and a Run.
+abbrev pub ran : List Bytes → List Bytes → ℕ → State
+ran before after n =
+    afterRun policy (stateOf (with (afterStart policy (with (replicate 16384 0) before)) after) (placeOf 0 0)) n
 
 unfoldable pub holds : Case → Bool
-unfolding readOf readLines lineRefusal wholeRefusal linesOf linesOfPieces lineOf wordOf segmentLine partitionLine rightLine flowLine slotLine number letters isNumber allDigits valueFrom cut same someBelow eachBelow outOfOrder outOfRange clashes incomplete codeUnreadable flowMissing added
 holds (reads text n line) =
-    let refusal = readOf single text .refusal in eqb (numberOf refusal) n && eqb (lineNumberOf refusal) line
+    let refusal = readOf single text .refusal in
+    eqb (numberOf refusal) n && eqb (lineNumberOf refusal) line
+holds (runs before after n bytes slot used) =
+    let x = ran before after n in
+    found (x .memory) bytes && eqb (x .place .slot) slot && eqb (x .place .used) used
 
 abbrev pub allHold : List Case → Bool
 allHold [] = true
@@ -35,6 +62,7 @@ allHold (c ∷ cs) = holds c && allHold cs
 abbrev pub without : ℕ → List (List ℕ) → List (List ℕ)
 without i lines = take i lines ++ drop (i + 1) lines
 
+-- The save segment of partition 0 stands at 64: its counter at 96, state 98, fault 99, pended 100, enabled 101, in-handler 106.
 abbrev pub cases : List Case
 cases =
     -- the demonstration head is accepted
@@ -47,4 +75,23 @@ cases =
     ∷ reads (take (length (joined demonstration) - 1) (joined demonstration)) 2 18
     -- K4: segment 1 with base 63, 5, line 2
     ∷ reads (joined (set demonstration 1 (bytesOf "segment\t1\t63\t44\n"))) 5 2
+    -- K5: segment 0 holds hex 01 00 41 00, 08 00 01 04, 00 00 00 00; after Start and 3 ticks byte 256 is 65, counter 8, state 1, place slot 1
+    -- with 0 used
+    ∷ runs (bytes 0 (0x01 ∷ 0x00 ∷ 0x41 ∷ 0x00 ∷ 0x08 ∷ 0x00 ∷ 0x01 ∷ 0x04 ∷ 0x00 ∷ 0x00 ∷ 0x00 ∷ 0x00 ∷ []) ∷ [])
+    [] 3 (bytes 256 (65 ∷ []) ∷ bytes 96 (8 ∷ 0 ∷ 1 ∷ 0 ∷ []) ∷ []) 1 0
+    -- K6: partition 0 loading from segment 4, fault 3
+    ∷ runs (bytes 0 (0x07 ∷ 0x00 ∷ 0x01 ∷ 0x04 ∷ []) ∷ []) [] 1 (bytes 96 (0 ∷ 0 ∷ 2 ∷ 3 ∷ []) ∷ []) 0 1
+    -- K7: storing at offset 15 of segment 4 works, at 16 fault 4
+    ∷ runs (bytes 0 (0x08 ∷ 0x00 ∷ 0x01 ∷ 0x04 ∷ []) ∷ []) (bytes 64 (7 ∷ 0 ∷ 0 ∷ 0 ∷ 15 ∷ []) ∷ []) 1
+    (bytes 271 (7 ∷ 0 ∷ []) ∷ bytes 96 (4 ∷ 0 ∷ 0 ∷ 0 ∷ []) ∷ []) 0 1
+    ∷ runs (bytes 0 (0x08 ∷ 0x00 ∷ 0x01 ∷ 0x04 ∷ []) ∷ []) (bytes 64 (7 ∷ 0 ∷ 0 ∷ 0 ∷ 16 ∷ []) ∷ []) 1
+    (bytes 271 (0 ∷ 0 ∷ []) ∷ bytes 96 (0 ∷ 0 ∷ 2 ∷ 4 ∷ []) ∷ []) 0 1
+    -- K8: counter 60 fetches, 61 is fault 1
+    ∷ runs [] (bytes 96 (60 ∷ []) ∷ []) 1 (bytes 96 (60 ∷ 0 ∷ 1 ∷ 0 ∷ []) ∷ []) 0 1
+    ∷ runs [] (bytes 96 (61 ∷ []) ∷ []) 1 (bytes 96 (61 ∷ 0 ∷ 2 ∷ 1 ∷ []) ∷ []) 0 1
+    -- K9: pended 6, enabled 7: line 1 taken, pended 4, r7 1
+    ∷ runs [] (bytes 100 (6 ∷ 7 ∷ []) ∷ []) 1 (bytes 100 (4 ∷ 7 ∷ []) ∷ bytes 92 (1 ∷ 0 ∷ 0 ∷ 0 ∷ []) ∷ bytes 106 (1 ∷ []) ∷ []) 0 1
+    -- K10: 0 − 1 is 4,294,967,295
+    ∷ runs (bytes 0 (0x03 ∷ 0x00 ∷ 0x01 ∷ 0x02 ∷ []) ∷ []) (bytes 72 (1 ∷ []) ∷ []) 1
+    (bytes 64 (0xff ∷ 0xff ∷ 0xff ∷ 0xff ∷ []) ∷ bytes 96 (4 ∷ 0 ∷ 0 ∷ 0 ∷ []) ∷ []) 0 1
     ∷ []

@@ -1,11 +1,12 @@
 // One tick of a partition over memory and the arrays of a policy record, all lent. A fetch or a load is lent one
 // segment, a store that segment alone.
+mod loading;
 mod reach;
+mod storing;
 
-use crate::reach::READ;
-use crate::reach::WRITE;
+use crate::loading::load;
 use crate::reach::entry;
-use crate::reach::may;
+use crate::storing::store;
 use machine::Decoded;
 use machine::Fault;
 use machine::Instr;
@@ -15,61 +16,13 @@ use parts::fetch;
 use parts::get_counter;
 use parts::interrupt;
 use parts::is_ready;
-use parts::load_from;
-use parts::store_to;
 use parts::takes_interrupt;
 ghost use mathlib.Core.Path.{_≡_};
 ghost use Prim.Native.Nat.{_+_, _≤_};
 ghost use lib.ListN.{length};
 ghost use Rattle.machine.specs.Tick.{ticked};
 ghost use Rattle.tick.specs.Seat.{seatOf, Inside, Fits};
-ghost use Rattle.tick.specs.Done.{loaded, stored, acted, obeyed, stepped};
-
-fn load<'a>(
-    memory: &mut [u8],
-    base: &'a [u16; 32],
-    size: &'a [u16; 32],
-    rights: &'a [u8; 256],
-    segments: u8,
-    row: u16,
-    from: usize,
-    a: u8,
-    b: u8,
-    c: u8,
-)
-    requires { ⌜ from + 44 ≤ length (now memory) ⌝ }
-    requires { ⌜ Inside (now base) (now size) segments row (length (now memory)) ⌝ }
-    ensures { λ _. ⌜ now (memory .exit) ≡ loaded (seatOf (now (base .entry)) (now (size .entry)) (now (rights .entry)) segments row) from (now (memory .entry)) a b c ⌝ }
-{
-    if may(rights, segments, row, READ, c) {
-        load_from(memory, from, entry(base, c), entry(size, c), a, b);
-    } else {
-        fault(memory, from, Fault::NoRight);
-    }
-}
-
-fn store<'a>(
-    memory: &mut [u8],
-    base: &'a [u16; 32],
-    size: &'a [u16; 32],
-    rights: &'a [u8; 256],
-    segments: u8,
-    row: u16,
-    from: usize,
-    a: u8,
-    b: u8,
-    c: u8,
-)
-    requires { ⌜ from + 44 ≤ length (now memory) ⌝ }
-    requires { ⌜ Inside (now base) (now size) segments row (length (now memory)) ⌝ }
-    ensures { λ _. ⌜ now (memory .exit) ≡ stored (seatOf (now (base .entry)) (now (size .entry)) (now (rights .entry)) segments row) from (now (memory .entry)) a b c ⌝ }
-{
-    if may(rights, segments, row, WRITE, c) {
-        store_to(memory, from, entry(base, c), entry(size, c), a, b);
-    } else {
-        fault(memory, from, Fault::NoRight);
-    }
-}
+ghost use Rattle.tick.specs.Done.{acted, obeyed, stepped};
 
 fn execute<'a>(
     memory: &mut [u8],

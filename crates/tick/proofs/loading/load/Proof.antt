@@ -3,8 +3,8 @@ use Rattle.machine.specs.Tick.{looks, loads}
 use Rattle.parts.specs.Parts.{loadedFrom}
 use Rattle.tick.proofs.Laws.Reach.{reach-few, reach-inside}
 use borrow.Author.Needs.{needs}
-use Rattle.tick.proofs.load.Statement.{statement}
-use Rattle.tick.proofs.load.Tie as tie
+use Rattle.tick.proofs.loading.load.Statement.{statement}
+use Rattle.tick.proofs.loading.load.Tie as tie
 
 may-requires : tie.Need-may-requires
 may-requires c κs = search needs

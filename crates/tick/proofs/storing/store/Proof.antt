@@ -4,8 +4,8 @@ use Rattle.machine.specs.Tick.{storesByte}
 use Rattle.tick.specs.Seat.{seatOf}
 use Rattle.tick.proofs.Laws.Reach.{reach-few, reach-inside, stored-to}
 use borrow.Author.Needs.{needs}
-use Rattle.tick.proofs.store.Statement.{statement}
-use Rattle.tick.proofs.store.Tie as tie
+use Rattle.tick.proofs.storing.store.Statement.{statement}
+use Rattle.tick.proofs.storing.store.Tie as tie
 
 may-requires : tie.Need-may-requires
 may-requires c κs = search needs
