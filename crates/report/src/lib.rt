@@ -1,7 +1,6 @@
 // The report that policycheck writes.
 mod masks;
 mod put;
-mod refusal;
 mod rows;
 mod ticks;
 mod write;

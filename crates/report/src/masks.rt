@@ -30,7 +30,7 @@ fn worth(own: bool, given: bool, bit: u32) -> u32
     if given { bit } else { 0 }
 }
 
-pub fn masks_of<'a>(save: &'a [u8; 8], rights: &'a [u8; 256], partitions: u8, s: u8) -> Masks
+pub(crate) fn masks_of<'a>(save: &'a [u8; 8], rights: &'a [u8; 256], partitions: u8, s: u8) -> Masks
     requires { ⌜ (partitions ≤ 8) × (s < 32) ⌝ }
     ensures { λ r. ⌜ (r .reads ≡ maskIn givesRead (now (save .entry)) (now (rights .entry)) partitions s)
         × (r .writes ≡ maskIn givesWrite (now (save .entry)) (now (rights .entry)) partitions s) ⌝ }

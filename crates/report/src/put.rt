@@ -6,7 +6,7 @@ ghost use Rattle.text.specs.Cut.{tab};
 ghost use Rattle.printer.specs.Decimal.{digit, digits};
 ghost use Rattle.report.specs.Written.{Written};
 
-pub fn put_byte(out: &mut [u8; 640], at: usize, b: u8) -> usize
+pub(crate) fn put_byte(out: &mut [u8; 640], at: usize, b: u8) -> usize
     requires { ⌜ at < 640 ⌝ }
     ensures { λ r. ⌜ Written (now (out .entry)) at (b ∷ []) (now (out .exit)) r ⌝ }
 {
@@ -14,7 +14,7 @@ pub fn put_byte(out: &mut [u8; 640], at: usize, b: u8) -> usize
     at + 1
 }
 
-pub fn put_word(out: &mut [u8; 640], at: usize, word: &[u8]) -> usize
+pub(crate) fn put_word(out: &mut [u8; 640], at: usize, word: &[u8]) -> usize
     requires { ⌜ at + length (now word) ≤ 640 ⌝ }
     ensures { λ r. ⌜ Written (now (out .entry)) at (now (word .entry)) (now (out .exit)) r ⌝ }
 {
@@ -35,7 +35,7 @@ fn put_digit(out: &mut [u8; 640], at: usize, d: u32) -> usize
 }
 
 // The first digits are those of the tenth part.
-pub fn put_number(out: &mut [u8; 640], at: usize, n: u32) -> usize
+pub(crate) fn put_number(out: &mut [u8; 640], at: usize, n: u32) -> usize
     requires { ⌜ (n < 100000) × (at + length (digits n) ≤ 640) ⌝ }
     ensures { λ r. ⌜ Written (now (out .entry)) at (digits n) (now (out .exit)) r ⌝ }
 {
@@ -47,7 +47,7 @@ pub fn put_number(out: &mut [u8; 640], at: usize, n: u32) -> usize
 }
 
 // A number after a tab.
-pub fn put_field(out: &mut [u8; 640], at: usize, n: u32) -> usize
+pub(crate) fn put_field(out: &mut [u8; 640], at: usize, n: u32) -> usize
     requires { ⌜ (n < 100000) × (at + 1 + length (digits n) ≤ 640) ⌝ }
     ensures { λ r. ⌜ Written (now (out .entry)) at (tab ∷ digits n) (now (out .exit)) r ⌝ }
 {

@@ -7,7 +7,7 @@ ghost use Rattle.report.specs.Rows.{acceptedWith, segmentWith, refusedWi
 ghost use Rattle.report.specs.Written.{Written};
 
 // At most 23 bytes.
-pub fn put_accepted(
+pub(crate) fn put_accepted(
     out: &mut [u8; 640],
     partitions: u32,
     segments: u32,
@@ -26,7 +26,7 @@ pub fn put_accepted(
 }
 
 // At most 19 bytes.
-pub fn put_segment(out: &mut [u8; 640], at: usize, s: u32, reads: u32, writes: u32) -> usize
+pub(crate) fn put_segment(out: &mut [u8; 640], at: usize, s: u32, reads: u32, writes: u32) -> usize
     requires { ⌜ (at + 19 ≤ 640) × (s < 100) × (reads < 256) × (writes < 256) ⌝ }
     ensures { λ r. ⌜ Written (now (out .entry)) at (segmentWith s reads writes) (now (out .exit)) r ⌝ }
 {
@@ -38,7 +38,7 @@ pub fn put_segment(out: &mut [u8; 640], at: usize, s: u32, reads: u32, writes: u
 }
 
 // At most 16 bytes.
-pub fn put_refused(out: &mut [u8; 640], number: u32, line: u32) -> usize
+pub(crate) fn put_refused(out: &mut [u8; 640], number: u32, line: u32) -> usize
     requires { ⌜ (number < 10) × (line < 100000) ⌝ }
     ensures { λ r. ⌜ Written (now (out .entry)) 0 (refusedWith number line) (now (out .exit)) r ⌝ }
 {

@@ -5,7 +5,7 @@ ghost use lib.ListN.{getD};
 ghost use Rattle.policy.specs.Below.{sumBelow};
 ghost use Rattle.policy.specs.Limits.{mostTicks};
 
-pub fn round_ticks<'a>(ticks: &'a [u16; 32], slots: u8) -> u32
+pub(crate) fn round_ticks<'a>(ticks: &'a [u16; 32], slots: u8) -> u32
     requires { ⌜ (slots ≤ 32) × ((i : ℕ) → i < slots → getD (now ticks) i 0 ≤ mostTicks) ⌝ }
     ensures { λ r. ⌜ r ≡ sumBelow slots (λ i. getD (now (ticks .entry)) i 0) ⌝ }
 {

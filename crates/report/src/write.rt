@@ -1,11 +1,11 @@
 // The whole report: of an accepted text its first row and a row for each segment, of a refused text one row.
 use crate::masks::masks_of;
-use crate::refusal::line_number_of;
-use crate::refusal::number_of;
 use crate::rows::put_accepted;
 use crate::rows::put_refused;
 use crate::rows::put_segment;
 use crate::ticks::round_ticks;
+use linerules::line_number_of;
+use linerules::number_of;
 use policy::Policy;
 use policy::Reading;
 ghost use mathlib.Core.Path.{_≡_};

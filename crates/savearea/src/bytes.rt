@@ -55,7 +55,7 @@ pub fn get_half(s: &[u8], at: u16) -> u16
     paired(byte_at(s, i), byte_at(s, i + 1))
 }
 
-pub fn get_word(s: &[u8], at: u16) -> u32
+pub(crate) fn get_word(s: &[u8], at: u16) -> u32
     ensures { λ r. ⌜ r ≡ word (now (s .entry)) at ⌝ }
 {
     let i = at as usize;
@@ -76,7 +76,7 @@ pub fn put_half(s: &mut [u8], at: u16, n: u32)
     put(s, i + 1, digit(n, 256));
 }
 
-pub fn put_word(s: &mut [u8], at: u16, n: u32)
+pub(crate) fn put_word(s: &mut [u8], at: u16, n: u32)
     ensures { λ _. ⌜ now (s .exit) ≡ withWord (now (s .entry)) at n ⌝ }
 {
     let i = at as usize;
