@@ -22,6 +22,10 @@ use Rattle.policy.specs.Record.{zeros, viewOf}
 use Rattle.policy.specs.Draft.{begun, after}
 use Rattle.policy.specs.Refusals.{Rule, firstOf, isAccepted}
 
+-- 1: "over 16,384 bytes"
+abbrev pub tooLong : Limits → List ℕ → Bool
+tooLong limits text = ltb (limits .text) (length text)
+
 -- 2: "unknown word, wrong fields, bad number or letters, no line end"
 abbrev pub isBad : Line → Bool
 isBad Bad = true
@@ -66,4 +70,4 @@ readLines limits n d (line ∷ lines) =
 unfoldable pub readOf : Limits → List ℕ → Reading
 readOf limits text =
     let rest = readLines limits 1 begun (linesOf text) in
-    cond (ltb (limits .text) (length text)) (answer TooLong zeros) rest
+    cond (tooLong limits text) (answer TooLong zeros) rest
