@@ -1,0 +1,20 @@
+-- The number and the line are those of the answer.
+use borrow.Author.Needs.{needs}
+use Rattle.boundary.proofs.sk_read.Statement.{statement}
+use Rattle.boundary.proofs.sk_read.Tie as tie
+
+read-requires : tie.Need-read-requires
+read-requires c κs = search needs
+
+number-of-requires : tie.Need-number-of-requires
+number-of-requires c κs = search needs
+
+line-number-of-requires : tie.Need-line-number-of-requires
+line-number-of-requires c κs = search needs
+
+returns : tie.Need-returns
+returns c = rw (c .line-number-of .ensures, c .before .number-of .ensures, c .before .before .before .read .ensures)
+
+pub sk-read-spec : {M : Type 1} → statement M
+sk-read-spec =
+    tie.close (tie.spec read-requires number-of-requires line-number-of-requires returns)

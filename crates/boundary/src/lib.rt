@@ -1,0 +1,86 @@
+// The kernel for programs in C: each function is a thin call, with the same equation and no `requires`.
+// include/separation_kernel.h declares them.
+ghost use mathlib.Core.Path.{_≡_};
+ghost use mathlib.Core.Bool.{cond};
+ghost use Rattle.policy.specs.Limits.{single};
+ghost use Rattle.policy.specs.Read.{readOf};
+ghost use Rattle.policy.specs.Sound.{soundOf};
+ghost use Rattle.calls.specs.Outcomes.{outcomeNumber};
+ghost use Rattle.calls.specs.Start.{startAnswer, afterStart};
+ghost use Rattle.calls.specs.Pend.{pendOutcome, afterPend};
+ghost use Rattle.calls.specs.Run.{stateOf, runAnswer, afterRun};
+ghost use Rattle.boundary.specs.Results.{readResult, runResult};
+use machine::Place;
+use policy::Policy;
+
+// struct sk_read_result
+#[repr(C)]
+pub struct ReadResult {
+    pub number: u32,
+    pub line: u32,
+    pub policy: Policy,
+}
+
+// struct sk_run_result
+#[repr(C)]
+pub struct RunResult {
+    pub number: u32,
+    pub place: Place,
+}
+
+#[no_mangle]
+pub extern "C" fn sk_read(text: &[u8]) -> ReadResult
+    ensures { λ r. ⌜ r ≡ readResult (readOf single (now (text .entry))) ⌝ }
+{
+    let reading = reader::read(text);
+    let refusal = reading.refusal;
+    let policy = reading.policy;
+    ReadResult {
+        number: linerules::number_of(refusal),
+        line: linerules::line_number_of(refusal),
+        policy,
+    }
+}
+
+#[no_mangle]
+pub extern "C" fn sk_sound(policy: Policy) -> u32
+    ensures { λ r. ⌜ r ≡ cond (soundOf policy) 1 0 ⌝ }
+{
+    if sound::sound(policy) { 1 } else { 0 }
+}
+
+#[no_mangle]
+pub extern "C" fn sk_start(policy: Policy, memory: &mut [u8]) -> RunResult
+    ensures { λ r. ⌜ r ≡ runResult (startAnswer policy (now (memory .entry))) ⌝ }
+    ensures { λ _. ⌜ now (memory .exit) ≡ afterStart policy (now (memory .entry)) ⌝ }
+{
+    let answer = kernel::start(policy, memory);
+    let outcome = answer.outcome;
+    let place = answer.place;
+    RunResult {
+        number: kernel::outcome_number(outcome),
+        place,
+    }
+}
+
+#[no_mangle]
+pub extern "C" fn sk_pend(policy: Policy, memory: &mut [u8], partition: u32, line: u32) -> u32
+    ensures { λ r. ⌜ r ≡ outcomeNumber (pendOutcome policy (now (memory .entry)) partition line) ⌝ }
+    ensures { λ _. ⌜ now (memory .exit) ≡ afterPend policy (now (memory .entry)) partition line ⌝ }
+{
+    kernel::outcome_number(kernel::pend(policy, memory, partition, line))
+}
+
+#[no_mangle]
+pub extern "C" fn sk_run(policy: Policy, memory: &mut [u8], place: Place, ticks: u32) -> RunResult
+    ensures { λ r. ⌜ r ≡ runResult (runAnswer policy (stateOf (now (memory .entry)) place) ticks) ⌝ }
+    ensures { λ _. ⌜ now (memory .exit) ≡ afterRun policy (stateOf (now (memory .entry)) place) ticks .memory ⌝ }
+{
+    let answer = kernel::run(policy, memory, place, ticks);
+    let outcome = answer.outcome;
+    let next = answer.place;
+    RunResult {
+        number: kernel::outcome_number(outcome),
+        place: next,
+    }
+}
