@@ -95,7 +95,7 @@ fn run_ticks(policy: Policy, memory: &mut [u8], place: Place, n: u32) -> Place
     ensures { λ r. ⌜ stateOf (now (memory .exit)) r ≡ ticked (viewOf policy) n (stateOf (now (memory .entry)) place) ⌝ }
 {
     let mut here = place;
-    let mut i = 0;
+    let mut i: u32 = 0;
     while i < n {
         let slot = here.slot as usize;
         let owner = policy.owner[slot];
