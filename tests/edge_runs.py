@@ -1,0 +1,292 @@
+#!/usr/bin/env python3
+"""Calls of Start, Pend and Run at the edges of the rules, for the test program crates/runs.
+
+    edge_runs.py ROOT     writes crates/runs/data/scenarios and crates/runs/stdout below the repository ROOT
+
+scenarios.py has the form of both files; the expected answers come from machine_reference.py.
+"""
+import os
+import sys
+
+from scenarios import Scenario, write_all
+
+
+def policy(segments, partitions, rights, slots):
+    """The text with these entries, and with the flow lines that rule 8 asks for."""
+    reads = [{save} | {s for q, s, letters in rights if q == p and "r" in letters} for p, (_, save) in enumerate(partitions)]
+    writes = [{save} | {s for q, s, letters in rights if q == p and "w" in letters} for p, (_, save) in enumerate(partitions)]
+    flows = sorted({(s, t) for p in range(len(partitions)) for s in reads[p] for t in writes[p] if s != t})
+    lines = ["segment %d %d %d" % (i, *s) for i, s in enumerate(segments)]
+    lines += ["partition %d %d %d" % (i, *p) for i, p in enumerate(partitions)]
+    lines += ["right %d %d %s" % r for r in sorted(rights)]
+    lines += ["flow %d %d" % f for f in flows] + ["slot %d %d" % s for s in slots]
+    return "".join(line.replace(" ", "\t") + "\n" for line in lines).encode()
+
+
+# The demonstration policy of document 01.
+DEMO = policy(
+    [(0, 64), (64, 44), (128, 64), (192, 44), (256, 16)],
+    [(0, 1), (2, 3)],
+    [(0, 0, "r"), (0, 4, "w"), (1, 2, "r"), (1, 4, "r")],
+    [(0, 3), (1, 2)],
+)
+# One partition with each kind of right: segment 2 rw, 3 r, 4 w, 5 none; segment 6 has the length of a save segment.
+BENCH = policy(
+    [(0, 64), (64, 44), (200, 16), (300, 16), (400, 16), (500, 16), (600, 44)],
+    [(0, 1)],
+    [(0, 0, "r"), (0, 2, "rw"), (0, 3, "r"), (0, 4, "w"), (0, 6, "rw")],
+    [(0, 1000)],
+)
+SAVE = 64
+# A partition that may write its own code.
+SELF = policy([(0, 64), (64, 44)], [(0, 1)], [(0, 0, "rw")], [(0, 10)])
+# Two partitions with one code, which the first may write.
+SHARED = policy([(0, 64), (64, 44), (128, 44)], [(0, 1), (0, 2)], [(0, 0, "rw"), (1, 0, "r")], [(0, 4), (1, 3)])
+# Partition 1 reads what partition 0 writes, in a segment of one byte, and writes another that nobody reads.
+HANDED = policy(
+    [(0, 64), (64, 44), (128, 64), (192, 44), (256, 1), (257, 1), (258, 1)],
+    [(0, 1), (2, 3)],
+    [(0, 0, "r"), (0, 4, "w"), (0, 6, "r"), (1, 2, "r"), (1, 4, "r"), (1, 5, "w")],
+    [(0, 2), (1, 3), (0, 1)],
+)
+# Segments of 4,096 bytes up to the end of memory, and a save segment at an odd place.
+HIGH = policy([(12288, 4096), (1, 44), (8192, 4096)], [(0, 1)], [(0, 0, "r"), (0, 2, "rw")], [(0, 1)])
+# Code of 3 bytes, and of 4.
+SHORT = policy([(0, 3), (4, 44), (50, 4), (60, 44)], [(0, 1), (2, 3)], [(0, 0, "r"), (1, 2, "r")], [(0, 1), (1, 1)])
+# 32 segments, 8 partitions, 32 slots; each partition writes a segment that the next one reads.
+FULL = policy(
+    [(100 + 44 * p, 44) for p in range(8)] + [(4096 + 40 * p, 40) for p in range(8)] + [(9000 + 16 * p, 16) for p in range(8)] + [(16376 + i, 1) for i in range(8)],
+    [(8 + p, p) for p in range(8)],
+    [(p, 8 + p, "r") for p in range(8)] + [(p, 16 + p, "rw") for p in range(8)] + [(p, 16 + (p + 7) % 8, "r") for p in range(8)] + [(p, 24 + p, "w") for p in range(8)],
+    [(i % 8, 1 + 37 * i % 1000) for i in range(31)] + [(7, 1000)],
+)
+
+HALT, WAIT, BACK = [0, 0, 0, 0], [10, 0, 0, 0], [12, 0, 0, 0]
+
+
+def number(op):
+    return lambda a, n: [op, a, n % 256, n // 256]
+
+
+SET, JUMP, LISTEN = number(1), number(9), number(11)
+ADD, SUB, AND, XOR, SHIFT, LOAD, STORE = ((lambda op: lambda a, b, c: [op, a, b, c])(op) for op in range(2, 9))
+
+
+def code(*instructions):
+    return [b for i in instructions for b in i]
+
+
+def save(registers={}, counter=0, state=0, fault=0, pended=0, enabled=0, back=0, handler=0, inside=0, unused=0):
+    out = b"".join(registers.get(r, 0).to_bytes(4, "little") for r in range(8))
+    out += counter.to_bytes(2, "little") + bytes([state, fault, pended, enabled])
+    return out + back.to_bytes(2, "little") + handler.to_bytes(2, "little") + bytes([inside, unused])
+
+
+SCENARIOS = []
+
+
+def add(name, text, size=16384, fill=7):
+    """A scenario whose memory has no zero."""
+    SCENARIOS.append(Scenario(name, text, size).fill(fill))
+    return SCENARIOS[-1]
+
+
+def bench(name, *instructions, n=1, text=BENCH, at=0, save_at=SAVE, **fields):
+    """These instructions at the counter, with this save segment, and n ticks."""
+    counter = fields.get("counter", 0)
+    return add(name, text).write(at + counter, code(*instructions)).start().write(save_at, save(**fields)).run(n).look(save_at, 44)
+
+
+TOP = 4294967295
+
+# Start, Pend and Run where they act.
+K5 = code(SET(0, 65), STORE(0, 1, 4), HALT)
+COUNT = code(ADD(0, 0, 1), JUMP(1, 0))
+add("demonstration", DEMO).write(0, K5).start().run(3).look(64, 44).look(192, 44).look(256, 16)
+add("start-clears", DEMO).start().look(60, 52).look(188, 52)
+add("start-keeps-44-bytes", BENCH).start().look(600, 44)
+add("start-full", FULL).start()
+add("start-again", DEMO).write(0, K5).start().run(4).start().look(64, 44).run(1).start().run(0)
+add("no-start", DEMO, fill=1).run(5)
+add("zero-memory", DEMO, fill=0).write(0, bytes(300)).start().run(100)
+add("line-7", DEMO).start().pend(0, 7).pend(1, 7).look(100, 1).look(228, 1)
+add("line-8", DEMO).start().pend(0, 8).pend(1, 8).pend(0, 255).pend(0, 256).pend(0, TOP).look(100, 1)
+add("lines-all", DEMO).start().pend(1, 3).pend(1, 0).pend(1, 3).look(228, 1).pend(1, 7).pend(1, 6).pend(1, 5).pend(1, 4).pend(1, 2).pend(1, 1).look(192, 44)
+add("lines-kept", DEMO).pend(0, 0).pend(0, 4).pend(1, 2).look(64, 44).look(192, 44)
+add("ticks-10000", DEMO).write(0, COUNT).start().write(64, save({1: 1})).run(10000).look(64, 44).run(1)
+add("ticks-10001", DEMO).write(0, K5).start().run(10001).run(TOP).look(64, 44).run(10000)
+s = add("several-rounds", DEMO).write(0, COUNT).write(128, COUNT).start().write(68, [1]).write(196, [1])
+s.run(5).run(7).run(23).look(64, 44).look(192, 44)
+add("one-run-or-many", DEMO).write(0, COUNT).start().write(68, [1]).run(1).run(2).run(0).run(3).run(4).look(64, 44)
+
+# Refusals 9 to 14, and their order.
+for size in (0, 1, 16383, 16385, 16400):
+    add("memory-%d" % size, DEMO, size).start().pend(0, 0).run(1).at(1, 1).run(0).pend(2, 8).at(2, 9).run(10001).at(0, 1).start().run(1)
+add("memory-16383-unsound", DEMO, 16383).change("slots", 0, 0).start().pend(0, 0).run(1)
+add("partition-none", DEMO).start().pend(2, 0).pend(8, 0).pend(255, 0).pend(256, 0).pend(TOP, 7).pend(2, 8).pend(TOP, TOP).pend(1, 0)
+add("refused-between", DEMO).write(0, K5).start().pend(2, 0).run(1).pend(0, 8).run(1).run(10001).run(1).at(2, 0).run(1).pend(0, 3).at(1, 0).run(2).look(64, 44)
+PLACES = [
+    (2, 0, (0, 1, 10001)), (1, 2, (0, 1)), (0, 3, (0, 1, 10001)), (0, 2, (0, 1, 1)), (1, 1, (0, 1, 1)), (1, 0, (2, 5)), (1, 1, (10001, 0)),
+    (32, 0, (1,)), (255, 0, (1,)), (256, 0, (1,)), (TOP, 0, (1,)), (0, TOP, (1,)), (0, 65536, (1,)), (TOP, TOP, (0, TOP)),
+]
+for slot, used, ns in PLACES:
+    s = add("place-%d-%d" % (slot, used) + ("-n-%d" % ns[0] if ns[0] > 1 else ""), DEMO).start().at(slot, used)
+    for n in ns:
+        s.run(n)
+add("place-last-full", FULL).start().at(31, 999).run(1).at(31, 1000).run(1).at(32, 0).run(1).at(30, 110).run(0).run(1).run(1001).at(31, 998).run(3)
+add("place-one-slot", HIGH).start().run(1).at(0, 1).run(1).at(1, 0).run(1)
+
+# 10: records that no accepted text gives, and some that one gives, each one change away from the demonstration's.
+CHANGES = [
+    ("segments", 0, (0, 4, 6, 32, 33, 255)), ("partitions", 0, (0, 1, 3, 8, 9, 255)), ("slots", 0, (0, 1, 3, 32, 33, 255)),
+    ("base", 1, (63, 65, 20, 84, 85)), ("base", 4, (16368, 16369, 65535)), ("base", 5, (1,)), ("base", 31, (1,)),
+    ("size", 4, (0, 1, 4096, 4097, 65535)), ("size", 1, (43, 45)), ("size", 5, (1,)), ("size", 31, (1,)),
+    ("code", 1, (0, 1, 3, 5, 255)), ("code", 2, (1,)), ("code", 7, (1,)), ("save", 1, (1, 2, 0, 4, 5, 255)), ("save", 2, (1,)), ("save", 7, (1,)),
+    ("owner", 1, (0, 2, 255)), ("owner", 2, (1,)), ("owner", 31, (1,)), ("ticks", 0, (0, 1, 1000, 1001, 65535)), ("ticks", 2, (1,)), ("ticks", 31, (1,)),
+    ("rights", 0, (0, 2, 3)), ("rights", 4, (0, 1, 3, 4, 255)), ("rights", 1, (1, 2)), ("rights", 3, (1,)), ("rights", 5, (1,)), ("rights", 36, (0, 2, 3)), ("rights", 64, (1,)), ("rights", 255, (1,)),
+    ("flows", 1, (0, 2, 255)), ("flows", 36, (0,)), ("flows", 0, (1,)), ("flows", 3, (1,)), ("flows", 129, (1,)), ("flows", 5, (1,)), ("flows", 160, (1,)), ("flows", 1023, (1,)),
+]
+for field, index, values in CHANGES:
+    s = add("record-%s-%d" % (field, index), DEMO).write(0, K5)
+    for v in values:
+        s.change(field, index, v).start().pend(1, 0).run(2)
+add("record-of-zeros", b"").start().pend(0, 0).run(0).pend(0, 8).at(1, 1).run(10001)
+add("record-order", DEMO).change("flows", 33, 1).start().pend(2, 8).at(2, 0).run(10001).change("flows", 33, 0).pend(2, 8).run(10001).at(0, 0).run(10001).pend(0, 8)
+add("record-right-taken", DEMO).write(0, K5).start().change("rights", 4, 0).change("flows", 36, 0).run(3).look(64, 44).look(256, 1)
+add("record-slots-fewer", DEMO).start().at(1, 0).change("slots", 0, 1).run(1).change("owner", 1, 0).change("ticks", 1, 0).run(1).at(0, 2).run(1)
+
+# Every opcode.
+ALL, HIGH_BIT = 0xFFFFFFFF, 0x80000000
+R = {0: 0x01020304, 1: 0xA1B2C3D4, 2: 5, 3: ALL, 4: HIGH_BIT, 5: 0x0F0F0F0F, 6: 31, 7: 300}
+bench("halt", HALT, SET(1, 1), n=2, registers=R, unused=9)
+bench("halt-other-bytes", [0, 255, 254, 253], registers=R)
+for n in (0, 1, 255, 256, 65535):
+    bench("set-%d" % n, SET(3, n), registers=R)
+bench("set-each", *[SET(r, 258 * r) for r in range(8)], n=8, registers=R)
+for name, i in [("add", ADD(0, 1, 2)), ("add-wraps", ADD(0, 3, 2)), ("add-wraps-to-0", ADD(4, 4, 4)), ("add-itself", ADD(7, 7, 7)), ("add-all", ADD(1, 3, 3))]:
+    bench(name, i, registers=R)
+for name, i in [("sub", SUB(0, 1, 2)), ("sub-wraps", SUB(0, 2, 3)), ("sub-itself", SUB(3, 3, 3)), ("sub-0-1", SUB(2, 6, 7)), ("sub-from-high", SUB(7, 4, 2))]:
+    bench(name, i, registers=R)
+bench("sub-from-0", SUB(0, 0, 1), registers={1: 1})
+for name, op in [("and", AND), ("xor", XOR)]:
+    bench(name, op(0, 1, 5), op(2, 3, 1), op(6, 3, 3), op(7, 4, 3), n=4, registers=R)
+for k in (0, 1, 8, 31, 32, 33, 63, 256, ALL):
+    bench("shift-%d" % k, SHIFT(0, 1, 2), SHIFT(3, 3, 2), n=2, registers={**R, 2: k})
+bench("load-fills-register", LOAD(1, 2, 3), LOAD(2, 2, 2), LOAD(3, 0, 0), n=3, registers={**R, 0: 63}).look(300, 16)
+bench("load-255", SET(0, 255), STORE(0, 2, 2), LOAD(1, 2, 2), LOAD(2, 2, 2), n=4, registers=R)
+bench("store-modulo-256", STORE(1, 2, 4), STORE(7, 6, 6), STORE(4, 2, 2), n=3, registers=R).look(400, 16).look(600, 44).look(200, 16)
+bench("store-offset-0", STORE(3, 2, 4), registers={3: 0x1FF}).look(399, 3)
+bench("jump-taken", JUMP(4, 8), HALT, SET(0, 1), n=2, registers=R)
+bench("jump-not-taken", JUMP(0, 8), SET(1, 1), n=2)
+bench("jump-itself", JUMP(0, 0), n=100, registers={0: 256})
+bench("jump-60", JUMP(0, 60), registers=R).run(1).look(SAVE, 44)
+bench("jump-61", JUMP(0, 61), registers=R).run(1).look(SAVE, 44)
+bench("jump-65535", JUMP(0, 65535), n=2, registers=R)
+bench("jump-unaligned", JUMP(0, 5), [0, 1, 7, 44], [1, 0, 0, 0], n=2, registers=R)
+bench("wait", WAIT, SET(0, 9), n=3, registers=R, enabled=255)
+bench("wait-other-bytes", [10, 255, 255, 255])
+bench("listen", LISTEN(255, 65535), registers=R, pended=0, handler=3, enabled=4)
+bench("listen-replaces", LISTEN(3, 258), registers=R, handler=65535, enabled=252)
+bench("listen-none", LISTEN(0, 0), registers=R, pended=255, handler=3, enabled=0)
+bench("back", BACK, SET(0, 9), n=2, registers=R, inside=1, back=4)
+bench("back-other-bytes", [12, 8, 255, 9], registers=R, inside=255, back=65535)
+for op in (13, 14, 16, 127, 128, 255):
+    bench("opcode-%d" % op, [op, 0, 0, 0], SET(0, 1), n=2, registers=R, unused=1)
+for op, registers in enumerate(["", "a", "abc", "abc", "abc", "abc", "abc", "ab", "ab", "a", "", "", ""]):
+    for x in registers:
+        s = add("register-%s-of-%d" % (x, op), BENCH).start()
+        for bad in (8, 16, 255):
+            i = [op, *(bad if x == y else 2 for y in "abc")]
+            s.write(0, i).write(SAVE, save({0: 1, 1: 1, 2: 1})).run(1).look(SAVE + 32, 4)
+        s.write(0, [op, *(7 if x == y else 2 for y in "abc")]).write(SAVE, save({2: 1, 7: 3})).run(1).look(SAVE, 44)
+
+# Faults, and which comes first.
+for counter in (60, 61, 62, 63, 64, 65531, 65532, 65533, 65535):
+    s = bench("counter-%d" % counter, registers=R, counter=counter, n=0, unused=1)
+    s.write(60, SET(0, 1)).run(2).look(SAVE, 44)
+bench("counter-over-before-opcode", counter=61, registers=R).write(61, [255, 255, 255]).run(1).look(SAVE, 44)
+add("code-of-3-and-4", SHORT).write(0, SET(0, 1)).start().write(50, SET(0, 1)).run(2).look(4, 44).look(60, 44).run(2).look(60, 44)
+for counter in (0, 4088, 4092, 4093, 4096):
+    bench("high-counter-%d" % counter, SET(0, 77), text=HIGH, at=12288 if counter < 4093 else 8000, save_at=1, counter=counter).run(1).look(1, 44)
+for offset in (0, 4095, 4096, 65535, 65536, 65536 + 4095, HIGH_BIT, ALL):
+    s = bench("high-offset-%d" % offset, LOAD(0, 1, 2), STORE(2, 1, 2), LOAD(3, 1, 2), text=HIGH, at=12288, save_at=1, n=3, registers={1: offset, 2: 200})
+    s.look(8191, 2).look(12287, 2)
+for segment in range(8):
+    s = add("rights-%d" % segment, BENCH).start()
+    for i in (LOAD(0, 1, segment), STORE(2, 1, segment)):
+        for offset in (0, 15, 16, 43, 44, ALL):
+            s.write(0, i).write(SAVE, save({1: offset, 2: 0x155})).run(1).look(SAVE, 4).look(SAVE + 32, 4)
+bench("segment-255", LOAD(0, 1, 255), registers=R)
+bench("segment-32", STORE(0, 2, 32), registers=R)
+bench("segment-31", STORE(0, 2, 31), registers=R)
+# The next partition has the right on segments 2 and 4.
+for segment in (34, 36):
+    add("segment-%d" % segment, DEMO).write(0, LOAD(0, 1, segment)).start().run(1).look(64, 44)
+bench("register-before-segment", LOAD(8, 1, 255), registers=R)
+add("other-save", DEMO).write(0, LOAD(0, 1, 3)).write(128, STORE(0, 1, 1)).start().run(5).look(64, 44).look(192, 44)
+add("other-code", DEMO).write(0, LOAD(0, 1, 2)).write(128, LOAD(0, 1, 0)).start().run(5).look(64, 44).look(192, 44)
+add("write-right-alone", DEMO).write(0, LOAD(0, 1, 4)).write(128, STORE(0, 1, 4)).start().run(5).look(64, 44).look(192, 44).look(256, 4)
+add("store-15-and-16", DEMO).write(0, code(SET(1, 15), STORE(0, 1, 4), SET(1, 16), STORE(0, 1, 4))).start().run(3).look(64, 44).at(0, 0).run(2).look(64, 44).look(256, 20)
+for inside in (1, 2, 255):
+    bench("wait-inside-%d" % inside, WAIT, n=2, registers=R, inside=inside, pended=1, enabled=1, unused=255)
+bench("back-outside", BACK, n=2, registers=R, back=8)
+bench("fault-byte-kept", SET(0, 1), HALT, n=3, registers=R, fault=9)
+bench("fault-byte-replaced", [13, 0, 0, 0], n=2, registers=R, fault=9)
+bench("faulted-stays", SET(0, 1), n=10, state=2, fault=3, registers=R).pend(0, 1).run(10).look(SAVE, 44)
+
+# Interrupts.
+for state in (0, 1, 2, 3, 4, 255):
+    for inside in (0, 1, 255):
+        bench("interrupt-state-%d-inside-%d" % (state, inside), SET(1, 5), registers=R, state=state, inside=inside, pended=6, enabled=7, handler=40, back=513, unused=1)
+        bench("no-line-state-%d-inside-%d" % (state, inside), SET(1, 5), registers=R, state=state, inside=inside, pended=240, enabled=15, handler=40, back=513)
+for line in range(8):
+    s = bench("line-%d-lowest" % line, SET(1, 5), registers=R, pended=256 - (1 << line), enabled=255 - (2 << line & 255), handler=40)
+    s.write(40, BACK).run(2).look(SAVE, 44)
+bench("line-not-enabled", SET(1, 5), registers=R, pended=127, enabled=128)
+bench("line-7-only", SET(1, 5), registers=R, pended=255, enabled=128, handler=40)
+bench("interrupt-before-fault", counter=65535, pended=1, enabled=1, handler=0).run(1).look(SAVE, 44)
+bench("interrupt-handler-over", SET(0, 1), pended=1, enabled=1, handler=65535).run(1).look(SAVE, 44)
+bench("interrupt-return-65535", BACK, pended=1, enabled=1, counter=0, handler=0, n=3)
+s = add("handler-and-back", BENCH).write(0, code(LISTEN(6, 32), SET(0, 1), SET(1, 2), HALT)).write(32, code(ADD(3, 3, 7), SET(4, 256), BACK)).start()
+s.run(1).pend(0, 2).pend(0, 0).pend(0, 1).look(SAVE + 32, 12)
+for _ in range(11):
+    s.run(1).look(SAVE, 44)
+s = add("wait-woken", BENCH).write(0, code(LISTEN(8, 20), WAIT, SET(0, 7), HALT)).write(20, code(SET(1, 9), BACK)).start().run(5).look(SAVE, 44)
+s.pend(0, 2).run(5).look(SAVE, 44).pend(0, 3).run(1).look(SAVE, 44).run(1).run(1).look(SAVE, 44).run(5).look(SAVE, 44)
+s = add("pend-while-inside", BENCH).write(0, code(LISTEN(255, 20), JUMP(1, 4))).write(20, code(ADD(0, 0, 7), BACK)).start().run(1)
+s.pend(0, 5).run(1).pend(0, 4).pend(0, 5).run(1).look(SAVE, 44).run(1).run(1).look(SAVE, 44).run(20).look(SAVE, 44)
+s = add("pended-until-active", DEMO).write(0, code(LISTEN(1, 16))).write(16, code(SET(2, 99), BACK))
+s.write(128, code(LISTEN(3, 8), JUMP(0, 4), SET(3, 98), BACK)).start().run(5).pend(1, 0).run(3).look(192, 44).run(1).look(192, 44).run(6).look(192, 44).look(64, 44)
+add("waiting-keeps-its-ticks", DEMO).write(0, code(WAIT)).write(128, COUNT).start().write(196, [1]).run(3).run(2).run(10).look(64, 44).look(192, 44)
+add("halted-keeps-its-ticks", DEMO).write(0, HALT).write(128, COUNT).start().write(196, [1]).run(3).run(2).run(10).look(192, 44)
+
+# Longer programs.
+add("own-code-changed", SELF).write(0, code(SET(0, 77), SET(1, 14), STORE(0, 1, 0), SET(2, 1))).start().run(4).look(0, 16).look(64, 44)
+add("own-code-opcode", SELF).write(0, code(SET(0, 2), SET(1, 12), STORE(0, 1, 0), SET(2, 1))).start().run(4).look(64, 44).run(1).look(64, 44)
+add("own-code-itself", SELF).write(0, code(STORE(0, 1, 0), HALT)).start().run(3).look(0, 8).look(64, 44)
+add("shared-code-changed", SHARED).write(0, code(SET(0, 12), SET(1, 2), STORE(0, 1, 0), HALT)).start().run(4).run(3).look(0, 12).look(64, 44).look(128, 44)
+s = add("byte-handed-on", HANDED).write(0, code(SET(0, 200), STORE(0, 1, 4), LOAD(2, 1, 6), LOAD(3, 1, 5)))
+s.write(128, code(LOAD(0, 1, 4), ADD(0, 0, 0), STORE(0, 1, 5), JUMP(0, 0))).start()
+s.run(2).look(256, 3).run(3).look(256, 3).run(1).look(64, 44).run(30).look(64, 44).look(192, 44).look(256, 3)
+for mode in (DEMO, BENCH, HANDED):
+    add("all-memory-as-code-%d" % len(mode), mode, fill=250).run(1000).run(1)
+s = add("ring-of-8", FULL)
+for p in range(8):
+    s.write(4096 + 40 * p, code(LOAD(0, 1, 16 + (p + 7) % 8), ADD(0, 0, 3), STORE(0, 1, 16 + p), STORE(0, 2, 24 + p), ADD(1, 1, 3), AND(1, 1, 4), JUMP(3, 0)))
+s.start()
+for p in range(8):
+    s.write(100 + 44 * p, save({3: 1, 4: 15}))
+s.write(9000, range(128)).run(1).run(10000).pend(3, 2).run(9999).look(9000, 128).look(16376, 8).look(100, 44).look(232, 44)
+for k in range(3):
+    add("rounds-of-full-%d" % k, FULL, fill=k + 3).start().run(10000).run(5000).pend(k, k).run(1)
+
+
+def main(root):
+    folder = os.path.join(root, "crates", "runs")
+    os.makedirs(os.path.join(folder, "data"), exist_ok=True)
+    assert len({s.name for s in SCENARIOS}) == len(SCENARIOS) and all(len(s.name) < 40 for s in SCENARIOS)
+    write_all(SCENARIOS, os.path.join(folder, "data", "scenarios"), os.path.join(folder, "stdout"))
+
+
+if __name__ == "__main__":
+    main(sys.argv[1])

@@ -1,0 +1,98 @@
+"""A scenario for the test program crates/runs: a policy, a memory and steps; how it is written to the program's file, and what the program must
+write. The expected answers come from machine_reference.py.
+
+In the file, a scenario is its name, filled up with spaces to 40 bytes, the memory's length in 10 digits, a space, the policy text's length in 10
+digits, a line end, and the text; then its steps. A step is a word, filled up with spaces to 8 bytes, and three numbers of 10 digits, parted by
+spaces, with a line end. The last step is `end`. Words differ in their first letter.
+"""
+import machine_reference as machine
+
+# The fields of the policy record, in the order of `change`.
+FIELDS = ["segments", "partitions", "slots", "base", "size", "code", "save", "owner", "ticks", "rights", "flows"]
+
+
+class Scenario:
+    def __init__(self, name, text, size=machine.MEMORY):
+        self.name, self.text, self.size, self.steps = name, text, size, []
+
+    def step(self, word, *numbers, data=b""):
+        self.steps.append((word, list(numbers), data))
+        return self
+
+    def start(self):
+        return self.step("start")
+
+    def pend(self, partition, line):
+        return self.step("pend", partition, line)
+
+    def run(self, n):
+        """From the place that the last Start or Run returned."""
+        return self.step("run", n)
+
+    def at(self, slot, used):
+        """The place that the next Run is given."""
+        return self.step("at", slot, used)
+
+    def write(self, at, data):
+        """Bytes put into memory."""
+        return self.step("write", at, len(data), data=bytes(data))
+
+    def fill(self, k):
+        """Every byte of memory becomes one that is not 0."""
+        return self.step("fill", k)
+
+    def change(self, field, index, value):
+        """An entry of the policy record gets another value."""
+        return self.step("change", FIELDS.index(field), index, value)
+
+    def look(self, at, count):
+        """So many bytes of memory are shown."""
+        return self.step("look", at, count)
+
+    def encoded(self):
+        out = [b"%s%010d %010d\n" % (self.name.encode().ljust(40), self.size, len(self.text)), self.text]
+        for word, numbers, data in self.steps + [("end", [], b"")]:
+            x, y, z = (numbers + [0, 0, 0])[:3]
+            out.append(b"%s%010d %010d %010d\n" % (word.encode().ljust(8), x, y, z))
+            if data:
+                out.append(b" ".join(b"%03d" % b for b in data) + b"\n")
+        return b"".join(out)
+
+    def expected(self):
+        number, record = machine.record_of(self.text)
+        memory, place = bytearray(self.size), (0, 0)
+        out = [("policy", number)]
+        for word, numbers, data in self.steps:
+            if word == "start":
+                number, place = machine.start(record, memory)
+                out.append(("start", number, "%d %d" % place))
+            elif word == "pend":
+                out.append(("pend %d %d" % tuple(numbers), machine.pend(record, memory, *numbers)))
+            elif word == "run":
+                number, place = machine.run(record, memory, place, numbers[0])
+                out.append(("run %d" % numbers[0], number, "%d %d" % place))
+            elif word == "at":
+                place = tuple(numbers)
+            elif word == "write":
+                memory[numbers[0] : numbers[0] + len(data)] = data
+            elif word == "fill":
+                memory[:] = bytes((i + numbers[0]) % 251 + 1 for i in range(self.size))
+            elif word == "change":
+                name, index, value = FIELDS[numbers[0]], numbers[1], numbers[2]
+                if isinstance(getattr(record, name), list):
+                    getattr(record, name)[index] = value
+                else:
+                    setattr(record, name, value)
+            elif word == "look":
+                at, count = numbers
+                out.append(("look %d %d" % (at, count), " ".join(str(b) for b in memory[at : at + count])))
+        # All of memory, as one number of base 256, modulo the largest prime below 2 to the power 32.
+        out.append(("end", int.from_bytes(memory, "big") % 4294967291))
+        return "".join("\t".join([self.name] + [str(field) for field in line]) + "\n" for line in out).encode()
+
+
+def write_all(scenarios, path, stdout):
+    with open(path, "wb") as f:
+        f.write(b"".join(s.encoded() for s in scenarios))
+    with open(stdout, "wb") as f:
+        f.write(b"".join(s.expected() for s in scenarios))
