@@ -13,7 +13,7 @@ fn wide(x: u16) -> usize
 }
 
 // Its first byte, by the bases of the segments and the save segments of the partitions.
-pub fn save_from<'a>(base: &'a [u16; 32], save: &'a [u8; 8], q: usize) -> usize
+pub(crate) fn save_from<'a>(base: &'a [u16; 32], save: &'a [u8; 8], q: usize) -> usize
     requires { ⌜ (q < 8) × (getD (now save) q 0 < 32) ⌝ }
     ensures { λ r. ⌜ r ≡ getD (now (base .entry)) (getD (now (save .entry)) q 0) 0 ⌝ }
 {

@@ -27,7 +27,7 @@ fn read_sized(fd: i32, name: &[u8], text: &mut [u8], size: usize) -> Policy {
     read_all(fd, name, text)
 }
 
-pub fn read_policy(fd: i32, name: &[u8], size: usize) -> Policy {
+pub(crate) fn read_policy(fd: i32, name: &[u8], size: usize) -> Policy {
     let mut text = buffer();
     read_sized(fd, name, &mut text, size)
 }
@@ -111,7 +111,7 @@ fn with_entry(policy: Policy, field: u32, i: usize, value: u32) -> Policy {
 }
 
 // The record after a step.
-pub fn changed(policy: Policy, step: Step) -> Policy {
+pub(crate) fn changed(policy: Policy, step: Step) -> Policy {
     if step.word == b'c' {
         return with_entry(policy, step.x, step.y as usize, step.z);
     }

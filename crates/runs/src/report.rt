@@ -36,24 +36,24 @@ fn show_placed(placed: Placed) {
     write(b"\n");
 }
 
-pub fn show_policy(name: &[u8], refusal: Refusal) {
+pub(crate) fn show_policy(name: &[u8], refusal: Refusal) {
     show_call(name, b"\tpolicy");
     show_number(b"\t", linerules::number_of(refusal));
     write(b"\n");
 }
 
-pub fn show_start(name: &[u8], placed: Placed) {
+pub(crate) fn show_start(name: &[u8], placed: Placed) {
     show_call(name, b"\tstart");
     show_placed(placed);
 }
 
-pub fn show_run(name: &[u8], step: Step, placed: Placed) {
+pub(crate) fn show_run(name: &[u8], step: Step, placed: Placed) {
     show_call(name, b"\trun");
     show_number(b" ", step.x);
     show_placed(placed);
 }
 
-pub fn show_pend(name: &[u8], step: Step, outcome: Outcome) {
+pub(crate) fn show_pend(name: &[u8], step: Step, outcome: Outcome) {
     show_call(name, b"\tpend");
     show_number(b" ", step.x);
     show_number(b" ", step.y);
@@ -78,7 +78,7 @@ fn show_from(memory: &[u8], at: u32, count: u32) {
     }
 }
 
-pub fn show_bytes(name: &[u8], memory: &[u8], step: Step, place: Place) -> Place {
+pub(crate) fn show_bytes(name: &[u8], memory: &[u8], step: Step, place: Place) -> Place {
     show_call(name, b"\tlook");
     show_number(b" ", step.x);
     show_number(b" ", step.y);
@@ -98,7 +98,7 @@ fn number_of(memory: &[u8]) -> u32 {
     n as u32
 }
 
-pub fn show_end(name: &[u8], memory: &[u8]) {
+pub(crate) fn show_end(name: &[u8], memory: &[u8]) {
     show_call(name, b"\tend");
     show_number(b"\t", number_of(memory));
     write(b"\n");

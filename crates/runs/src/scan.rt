@@ -9,7 +9,7 @@ pub struct Step {
     pub z: u32,
 }
 
-pub fn byte_at(s: &[u8], i: usize) -> u8 {
+pub(crate) fn byte_at(s: &[u8], i: usize) -> u8 {
     if i < s.len() { s[i] } else { 0 }
 }
 
@@ -40,7 +40,7 @@ fn five_digits(s: &[u8], at: usize) -> u64
 }
 
 // The number in ten digits.
-pub fn number_at(s: &[u8], at: usize) -> u32
+pub(crate) fn number_at(s: &[u8], at: usize) -> u32
     requires { ⌜ at ≤ 80 ⌝ }
 {
     let n = five_digits(s, at) * 100000 + five_digits(s, at + 5);
@@ -48,14 +48,14 @@ pub fn number_at(s: &[u8], at: usize) -> u32
 }
 
 // A byte of memory, in three digits and one byte more.
-pub fn next_byte(fd: i32) -> u8 {
+pub(crate) fn next_byte(fd: i32) -> u8 {
     let mut text = [0u8; 4];
     io::read_full(fd, &mut text);
     (three_digits(&text, 0) % 256) as u8
 }
 
 // The next step, the last one where the file has ended.
-pub fn next_step(fd: i32) -> Step {
+pub(crate) fn next_step(fd: i32) -> Step {
     let mut header = [0u8; 41];
     let got = io::read_full(fd, &mut header);
     if got < 41 {

@@ -18,7 +18,7 @@ fn read_to(fd: i32, memory: &mut [u8], at: u32, count: u32) {
     }
 }
 
-pub fn read_bytes(fd: i32, memory: &mut [u8], step: Step, place: Place) -> Place {
+pub(crate) fn read_bytes(fd: i32, memory: &mut [u8], step: Step, place: Place) -> Place {
     read_to(fd, memory, step.x, step.y);
     place
 }
@@ -32,7 +32,7 @@ fn fill_from(memory: &mut [u8], k: u32) {
     }
 }
 
-pub fn fill(memory: &mut [u8], step: Step, place: Place) -> Place {
+pub(crate) fn fill(memory: &mut [u8], step: Step, place: Place) -> Place {
     fill_from(memory, step.x);
     place
 }
