@@ -1,0 +1,77 @@
+/* Reads a policy (the demonstration, or the file named), starts, puts a program of three instructions into segment 0, pends a line, runs, and prints
+ * what came of it.
+ *
+ *     cc -std=c11 -Iinclude examples/c/example.c target/staticlib/libboundary.a -o example */
+#include "separation_kernel.h"
+
+#include <stdio.h>
+#include <string.h>
+
+_Static_assert(sizeof(struct sk_policy) == 1524, "the record has the layout that the library expects");
+_Static_assert(sizeof(struct sk_run_result) == 12, "so has the answer of a Run");
+
+static const char demonstration[] =
+    "segment\t0\t0\t64\nsegment\t1\t64\t44\nsegment\t2\t128\t64\nsegment\t3\t192\t44\nsegment\t4\t256\t16\n"
+    "partition\t0\t0\t1\npartition\t1\t2\t3\n"
+    "right\t0\t0\tr\nright\t0\t4\tw\nright\t1\t2\tr\nright\t1\t4\tr\n"
+    "flow\t0\t1\nflow\t0\t4\nflow\t1\t4\nflow\t2\t3\nflow\t4\t3\n"
+    "slot\t0\t3\nslot\t1\t2\n";
+
+/* r0 = 65; store it at offset r1 (0) of segment 4; halt. */
+static const uint8_t program[] = {0x01, 0x00, 0x41, 0x00, 0x08, 0x00, 0x01, 0x04, 0x00, 0x00, 0x00, 0x00};
+
+static uint8_t memory[SK_MEMORY_BYTES];
+
+static void print_save(const struct sk_policy *policy, unsigned partition)
+{
+    const uint8_t *save = memory + policy->base[policy->save[partition]];
+    printf("partition %u: counter %u, state %u, fault %u, pended lines %u\n", partition, save[32] + 256u * save[33], save[34], save[35], save[36]);
+}
+
+int main(int count, char **words)
+{
+    /* One byte more than a text may have, so that a longer file is refused as such. */
+    static uint8_t text[SK_TEXT_BYTES + 1];
+    size_t length = sizeof demonstration - 1;
+
+    memcpy(text, demonstration, length);
+    if (count > 1) {
+        FILE *file = fopen(words[1], "rb");
+        if (file == NULL) {
+            perror(words[1]);
+            return 2;
+        }
+        length = fread(text, 1, sizeof text, file);
+        fclose(file);
+    }
+
+    struct sk_read_result read = sk_read(text, length);
+    if (read.number != SK_DONE) {
+        printf("policy refused: number %u, line %u\n", (unsigned)read.number, (unsigned)read.line);
+        return 1;
+    }
+    struct sk_policy policy = read.policy;
+    printf("policy accepted: %u partitions, %u segments, %u slots, sound %u\n", policy.partitions, policy.segments, policy.slots,
+           (unsigned)sk_sound(policy));
+
+    struct sk_run_result run = sk_start(policy, memory, sizeof memory);
+    printf("start: %u\n", (unsigned)run.number);
+
+    size_t room = policy.size[0] < sizeof program ? policy.size[0] : sizeof program;
+    memcpy(memory + policy.base[0], program, room);
+    printf("pend line 2 for partition 0: %u\n", (unsigned)sk_pend(policy, memory, sizeof memory, 0, 2));
+    printf("pend line 8 for partition 0: %u\n", (unsigned)sk_pend(policy, memory, sizeof memory, 0, 8));
+
+    run = sk_run(policy, memory, sizeof memory, run.place, 3);
+    printf("run 3 ticks: %u, slot %u, used %u\n", (unsigned)run.number, (unsigned)run.place.slot, (unsigned)run.place.used);
+    print_save(&policy, 0);
+    if (policy.segments > 4)
+        printf("first byte of segment 4: %u\n", memory[policy.base[4]]);
+
+    run = sk_run(policy, memory, sizeof memory, run.place, 10001);
+    printf("run 10001 ticks: %u, slot %u, used %u\n", (unsigned)run.number, (unsigned)run.place.slot, (unsigned)run.place.used);
+    run = sk_run(policy, memory, sizeof memory, run.place, 10000);
+    printf("run 10000 ticks: %u, slot %u, used %u\n", (unsigned)run.number, (unsigned)run.place.slot, (unsigned)run.place.used);
+    print_save(&policy, 0);
+    return 0;
+}

@@ -1,0 +1,92 @@
+/* The separation kernel's C boundary: link with libboundary.a.
+ *
+ * Each function answers for every text, record, memory, place and number; a refused call changes no byte of memory. A pointer and its length must be
+ * those of bytes that the caller may read (text) or read and write (memory). */
+#ifndef SEPARATION_KERNEL_H
+#define SEPARATION_KERNEL_H
+
+#include <stddef.h>
+#include <stdint.h>
+
+#define SEPARATION_KERNEL_VERSION_MAJOR 1
+#define SEPARATION_KERNEL_VERSION_MINOR 0
+#define SEPARATION_KERNEL_VERSION "1.0"
+
+/* The bytes of memory that Start, Pend and Run take, and the most bytes of a policy text. */
+#define SK_MEMORY_BYTES 16384
+#define SK_TEXT_BYTES 16384
+
+#ifdef __cplusplus
+extern "C" {
+#endif
+
+/* The answers: 0, or why a text or call was refused. Of several reasons the first counts; 2 to 5 are those of the first bad line. */
+enum sk_refusal {
+    SK_DONE = 0,           /* accepted, or done */
+    SK_TEXT_TOO_LONG = 1,  /* over 16,384 bytes */
+    SK_BAD_LINE = 2,       /* unknown word, wrong fields, bad number or letters, no line end */
+    SK_OUT_OF_ORDER = 3,   /* kind, id or pair out of order */
+    SK_OUT_OF_RANGE = 4,   /* too many lines of a kind, a number out of range, a partition or segment that isn't there */
+    SK_CLASH = 5,          /* segments overlap, a save segment misused, a flow from a segment to itself */
+    SK_EMPTY = 6,          /* no segment, partition or slot */
+    SK_CODE_NOT_READ = 7,  /* a partition lacks r on its code segment */
+    SK_FLOW_MISSING = 8,   /* a partition could carry bytes where no flow line allows it */
+    SK_MEMORY_LENGTH = 9,  /* memory isn't 16,384 bytes */
+    SK_RECORD = 10,        /* the record is that of no accepted text */
+    SK_NO_PARTITION = 11,  /* no such partition */
+    SK_NO_LINE = 12,       /* interrupt line above 7 */
+    SK_PLACE = 13,         /* slot not in the schedule, or its ticks used up */
+    SK_TOO_MANY_TICKS = 14 /* over 10,000 ticks in one Run */
+};
+
+/* A policy. The counts are at most 32, 8 and 32; entries past them are 0. */
+struct sk_policy {
+    uint8_t segments, partitions, slots;
+    uint16_t base[32], size[32];  /* of each segment */
+    uint8_t code[8], save[8];     /* each partition's code and save segment */
+    uint8_t slot_partition[32];   /* of each slot of the schedule */
+    uint16_t slot_ticks[32];
+    uint8_t rights[256];          /* at 32 * partition + segment: 0 none, 1 r, 2 w, 3 rw */
+    uint8_t flows[1024];          /* at 32 * from + to: 1 if there is a flow line */
+};
+
+/* A place in the schedule: a slot, and the ticks used in it. */
+struct sk_place {
+    uint32_t slot, used;
+};
+
+struct sk_read_result {
+    uint32_t number, line;
+    struct sk_policy policy;
+};
+
+struct sk_run_result {
+    uint32_t number;
+    struct sk_place place;
+};
+
+/* Reads a policy text. Accepted: number 0, line 0 and its record. Refused: 1 to 8, the bad line counted from 1 (0 if it is no single line's fault),
+ * and the record of zeros. */
+struct sk_read_result sk_read(const uint8_t *text, size_t text_len);
+
+/* 1 if some accepted text gives this record, else 0. The other calls refuse all records for which it is 0,
+ * so nothing need be known of where a record comes from. */
+uint32_t sk_sound(struct sk_policy policy);
+
+/* Starts: the save segments become zero, all other bytes stay, and the place is slot 0 with 0 ticks used.
+ * Refused: 9 or 10, and the same place. */
+struct sk_run_result sk_start(struct sk_policy policy, uint8_t *memory, size_t memory_len);
+
+/* Pends an interrupt line (0 to 7) for a partition, which takes it in a tick of its own once it listens to it.
+ * Refused: 9 to 12. */
+uint32_t sk_pend(struct sk_policy policy, uint8_t *memory, size_t memory_len, uint32_t partition, uint32_t line);
+
+/* Runs 0 to 10,000 ticks from a place, and returns the place after them.
+ * Refused: 9, 10, 13 or 14, and the place that was given. */
+struct sk_run_result sk_run(struct sk_policy policy, uint8_t *memory, size_t memory_len, struct sk_place place, uint32_t ticks);
+
+#ifdef __cplusplus
+}
+#endif
+
+#endif

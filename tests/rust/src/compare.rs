@@ -1,0 +1,267 @@
+//! Holds a kernel to the reference, and counts what the generated inputs have reached.
+
+use crate::boundary::{Kernel, Place, Policy, MEMORY};
+use crate::generate::lists::{Call, List, Step};
+use crate::reference::{judge, print, read, run_watched, sound, Event, Reference};
+use std::collections::BTreeMap;
+
+/// How a kernel differs from the reference on a text, if it does.
+pub fn text_difference(kernel: &dyn Kernel, text: &[u8]) -> Option<String> {
+    let (want, got) = (read(text), kernel.read(text));
+    if (want.number, want.line) != (got.number, got.line) {
+        return Some(format!("reference: number {} line {}, {}: number {} line {}", want.number, want.line, kernel.name(), got.number, got.line));
+    }
+    if want.policy != got.policy {
+        return Some(format!("the record differs:\nreference: {:?}\n{}: {:?}", want.policy, kernel.name(), got.policy));
+    }
+    None
+}
+
+/// How a kernel differs from the reference on a record, if it does.
+pub fn record_difference(kernel: &dyn Kernel, policy: &Policy) -> Option<String> {
+    let (want, got) = (sound(policy) as u32, kernel.sound(policy));
+    (want != got).then(|| format!("sound: reference {want}, {} {got}", kernel.name()))
+}
+
+/// The definition itself, "some accepted text gives it": only one text can.
+pub fn text_gives(policy: &Policy) -> bool {
+    print(policy).is_some_and(|text| judge(text.as_bytes()).is_ok_and(|record| record == *policy))
+}
+
+/// What a call answers: a number, and the place that the next Run gets.
+#[derive(Clone, Copy, PartialEq, Eq, Debug)]
+pub struct Answer {
+    pub number: u32,
+    pub place: Place,
+}
+
+/// One call on the first bytes of a memory.
+pub fn perform(kernel: &dyn Kernel, policy: &Policy, memory: &mut [u8], place: Place, call: Call) -> Answer {
+    match call {
+        Call::Start => {
+            let result = kernel.start(policy, memory);
+            Answer { number: result.number, place: result.place }
+        }
+        Call::Pend { partition, line } => Answer { number: kernel.pend(policy, memory, partition, line), place },
+        Call::Run { ticks, from } => {
+            let result = kernel.run(policy, memory, from.unwrap_or(place), ticks);
+            Answer { number: result.number, place: result.place }
+        }
+    }
+}
+
+fn record_of<'l>(list: &'l List, step: &Step) -> &'l Policy {
+    &list.policies[step.second as usize]
+}
+
+/// How a kernel differs from the reference on a list of calls, if it does: the answers and the whole memory after each call.
+pub fn list_difference(kernel: &dyn Kernel, list: &List) -> Option<String> {
+    let (mut wanted, mut gotten) = (list.memory.clone(), list.memory.clone());
+    let mut place = list.place;
+    for (at, step) in list.steps.iter().enumerate() {
+        let policy = record_of(list, step);
+        let want = perform(&Reference, policy, &mut wanted[..step.length], place, step.call);
+        let got = perform(kernel, policy, &mut gotten[..step.length], place, step.call);
+        let say = |what: String| Some(format!("call {}, {:?}: {what}", at + 1, step.call));
+        if want != got {
+            return say(format!("reference {want:?}, {} {got:?}", kernel.name()));
+        }
+        if wanted != gotten {
+            let byte = (0..wanted.len()).find(|&byte| wanted[byte] != gotten[byte]).unwrap();
+            return say(format!("byte {byte}: reference {}, {} {}", wanted[byte], kernel.name(), gotten[byte]));
+        }
+        place = want.place;
+    }
+    None
+}
+
+/// How often each case came up.
+#[derive(Default)]
+pub struct Reached(pub BTreeMap<String, u64>);
+
+impl Reached {
+    pub fn count(&mut self, case: &str) {
+        if let Some(count) = self.0.get_mut(case) {
+            *count += 1;
+        } else {
+            self.0.insert(case.to_string(), 1);
+        }
+    }
+
+    pub fn text(&mut self, text: &[u8]) {
+        match judge(text) {
+            Ok(_) => self.count("accepted"),
+            Err(refusal) => {
+                self.count(refusal.why);
+                if let Some(also) = refusal.also {
+                    self.count(&format!("{} and {} on one line", &refusal.why[..1], &also[..1]));
+                }
+            }
+        }
+    }
+
+    pub fn record(&mut self, policy: &Policy) {
+        self.count(if sound(policy) { "sound" } else { "not sound" });
+    }
+
+    pub fn list(&mut self, list: &List) {
+        let mut memory = list.memory.clone();
+        let mut place = list.place;
+        for step in &list.steps {
+            let policy = record_of(list, step);
+            let bytes = &mut memory[..step.length];
+            let (name, number) = match step.call {
+                Call::Run { ticks, from } => {
+                    let result = run_watched(policy, bytes, from.unwrap_or(place), ticks, &mut |event| self.event(event));
+                    place = result.place;
+                    if result.number == 0 && (ticks == 0 || ticks == 10_000) {
+                        self.count(&format!("Run of {ticks} ticks"));
+                    }
+                    ("Run", result.number)
+                }
+                call => {
+                    let answer = perform(&Reference, policy, bytes, place, call);
+                    place = answer.place;
+                    (if call == Call::Start { "Start" } else { "Pend" }, answer.number)
+                }
+            };
+            self.count(&format!("{name} {number}"));
+            if step.length != MEMORY && step.second {
+                self.count("9 before 10");
+            }
+        }
+    }
+
+    fn event(&mut self, event: Event) {
+        match event {
+            Event::Interrupt { line, waiting } => {
+                self.count(LINES[line as usize]);
+                self.count(if waiting { "interrupt while waiting" } else { "interrupt while ready" });
+            }
+            Event::Ran { opcode } => self.count(OPCODES[opcode as usize]),
+            Event::Fault { why, .. } => self.count(&format!("fault {why}")),
+            Event::Idle { why } => self.count(why),
+        }
+    }
+
+    /// The cases of a list that never came up.
+    pub fn missing(&self, wanted: &[&'static str]) -> Vec<&'static str> {
+        wanted.iter().copied().filter(|case| !self.0.contains_key(*case)).collect()
+    }
+}
+
+const LINES: [&str; 8] =
+    ["line 0 taken", "line 1 taken", "line 2 taken", "line 3 taken", "line 4 taken", "line 5 taken", "line 6 taken", "line 7 taken"];
+const OPCODES: [&str; 13] = ["halt", "set", "add", "sub", "and", "xor", "shift", "load", "store", "jump", "wait", "listen", "back"];
+
+/// Every reason of a refused text, and every outcome of a record.
+pub const TEXT_CASES: [&str; 46] = [
+    "accepted",
+    "1 over 16,384 bytes",
+    "2 no line end",
+    "2 unknown word",
+    "2 wrong fields",
+    "2 bad number: digits",
+    "2 bad number: not a digit",
+    "2 bad number: leading zero",
+    "2 bad letters",
+    "3 kind out of order",
+    "3 segment id out of order",
+    "3 partition id out of order",
+    "3 right pair out of order",
+    "3 flow pair out of order",
+    "4 more than 32 segments",
+    "4 length 0",
+    "4 length over 4,096",
+    "4 base + length over 16,384",
+    "4 more than 8 partitions",
+    "4 code segment not there",
+    "4 save segment not there",
+    "4 partition of a right not there",
+    "4 segment of a right not there",
+    "4 from of a flow not there",
+    "4 to of a flow not there",
+    "4 more than 32 slots",
+    "4 ticks 0",
+    "4 ticks over 1,000",
+    "4 partition of a slot not there",
+    "5 overlap",
+    "5 save length not 44",
+    "5 save of two partitions",
+    "5 code and save of the same",
+    "5 save is the code of another",
+    "5 code is the save of another",
+    "5 right on a save segment",
+    "5 flow to itself",
+    "6 no segment",
+    "6 no partition",
+    "6 no slot",
+    "7 no r on the code segment",
+    "8 flow missing",
+    "3 and 4 on one line",
+    "3 and 5 on one line",
+    "4 and 5 on one line",
+    "sound",
+];
+
+/// Every outcome of a call and of a tick.
+pub const LIST_CASES: [&str; 58] = [
+    "Start 0",
+    "Start 9",
+    "Start 10",
+    "Pend 0",
+    "Pend 9",
+    "Pend 10",
+    "Pend 11",
+    "Pend 12",
+    "Run 0",
+    "Run 9",
+    "Run 10",
+    "Run 13",
+    "Run 14",
+    "Run of 0 ticks",
+    "Run of 10000 ticks",
+    "9 before 10",
+    "line 0 taken",
+    "line 1 taken",
+    "line 2 taken",
+    "line 3 taken",
+    "line 4 taken",
+    "line 5 taken",
+    "line 6 taken",
+    "line 7 taken",
+    "interrupt while waiting",
+    "interrupt while ready",
+    "halt",
+    "set",
+    "add",
+    "sub",
+    "and",
+    "xor",
+    "shift",
+    "load",
+    "store",
+    "jump",
+    "wait",
+    "listen",
+    "back",
+    "fault 1 counter past the code",
+    "fault 1 counter near the code's end",
+    "fault 2 bad opcode",
+    "fault 2 bad register",
+    "fault 5 wait inside a handler",
+    "fault 5 back outside a handler",
+    "fault 3 segment not there",
+    "fault 3 load without a right",
+    "fault 3 load with w alone",
+    "fault 3 store without a right",
+    "fault 3 store with r alone",
+    "fault 4 offset at the length",
+    "fault 4 offset past the length",
+    "idle halted",
+    "idle faulted",
+    "idle waiting",
+    "idle waiting in a handler",
+    "idle waiting in a handler, a line pended",
+    "idle state above 3",
+];

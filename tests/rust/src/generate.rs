@@ -1,0 +1,9 @@
+//! Random policies, texts, records, programs, memories and call lists. The same seed gives the same ones.
+
+pub mod lists;
+pub mod memories;
+pub mod mutations;
+pub mod policies;
+pub mod programs;
+pub mod records;
+pub mod texts;

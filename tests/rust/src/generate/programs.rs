@@ -1,0 +1,259 @@
+//! Random programs that do something: loops, loads and stores, copies from one segment into another, handlers, code that changes itself, and faults.
+
+use crate::boundary::Policy;
+use crate::random::Random;
+
+struct Writer<'w> {
+    random: &'w mut Random,
+    policy: &'w Policy,
+    partition: usize,
+    code: Vec<u8>,
+    /// The code's length.
+    room: usize,
+    /// No instruction is put past this.
+    limit: usize,
+    /// Where the handler begins.
+    handler: usize,
+    /// Once in so many loads and stores the segment is any, also one without a right.
+    daring: usize,
+}
+
+/// A program for a partition's code segment, and the place of its handler.
+pub fn program(random: &mut Random, policy: &Policy, partition: usize, daring: usize) -> (Vec<u8>, usize) {
+    let room = policy.size[policy.code[partition] as usize] as usize;
+    // Programs of a few hundred bytes are long enough.
+    let used = room.min(400);
+    let handler = if used >= 32 { used * 2 / 3 / 4 * 4 } else { used.saturating_sub(4) / 4 * 4 };
+    let mut writer = Writer { random, policy, partition, code: Vec::new(), room, limit: 0, handler, daring };
+    let skew = if writer.random.one_in(12) { writer.random.below(4) } else { 0 };
+    writer.code.resize(skew, 0);
+    writer.main(handler);
+    writer.code.resize(handler, 0);
+    writer.handler(used);
+    while writer.code.len() < room {
+        let byte = writer.random.byte() % 14;
+        writer.code.push(byte);
+    }
+    (writer.code, handler)
+}
+
+impl Writer<'_> {
+    fn put(&mut self, opcode: u8, a: u8, b: u8, c: u8) {
+        if self.code.len() + 4 <= self.limit {
+            self.code.extend_from_slice(&[opcode, a, b, c]);
+        }
+    }
+
+    fn put_n(&mut self, opcode: u8, a: u8, n: usize) {
+        self.put(opcode, a, n as u8, (n >> 8) as u8);
+    }
+
+    /// Halt, wait or back, whose other bytes may have all values.
+    fn put_bare(&mut self, opcode: u8) {
+        let (a, b, c) = (self.random.byte() % 14, self.random.byte() % 14, self.random.byte());
+        self.put(opcode, a, b, c);
+    }
+
+    fn register(&mut self) -> u8 {
+        self.random.below(8) as u8
+    }
+
+    fn main(&mut self, until: usize) {
+        // The last instruction has its place before the handler.
+        self.limit = until.saturating_sub(8);
+        if self.random.one_in(2) {
+            let lines = self.random.pick(&[1, 2, 6, 0x80, 0xFF, 0xFF]);
+            let handler = self.handler;
+            self.put_n(11, lines, handler);
+        }
+        while self.code.len() + 4 <= self.limit {
+            self.piece();
+        }
+        self.limit = until;
+        match self.random.below(16) {
+            0 => self.put_bare(0),
+            1 => self.put_bare(10),
+            2 => (),
+            _ => {
+                self.put_n(1, 6, 1);
+                let to = 4 * self.random.below(3);
+                self.put_n(9, 6, to);
+            }
+        }
+    }
+
+    /// Mostly: keep the line's number somewhere, and go back.
+    fn handler(&mut self, until: usize) {
+        self.limit = until.saturating_sub(4);
+        if self.random.one_in(3) {
+            self.transfer(8);
+        }
+        while self.code.len() + 4 <= self.limit && self.random.one_in(2) {
+            self.piece();
+        }
+        self.limit = until;
+        match self.random.below(16) {
+            0 => self.put_bare(10),
+            1 => self.piece(),
+            _ => self.put_bare(12),
+        }
+    }
+
+    fn piece(&mut self) {
+        match self.random.below(40) {
+            0..=8 => self.compute(),
+            9..=12 => {
+                let (a, n) = (self.register(), self.random.pick(&[0, 1, 2, 5, 31, 32, 33, 255, 256, 0x1234, 0xFFFF]));
+                self.put_n(1, a, n);
+            }
+            13..=17 => self.transfer(7),
+            18..=22 => self.transfer(8),
+            23..=26 => self.copy_loop(),
+            27..=30 => self.count_loop(),
+            31..=32 => self.jump(),
+            33 => {
+                let lines = self.random.byte();
+                let handler = if self.random.one_in(4) { self.place() } else { self.handler };
+                self.put_n(11, lines, handler);
+            }
+            34 => self.put_bare(10),
+            36 if self.policy.right(self.partition, self.policy.code[self.partition] as usize) == 3 || self.random.one_in(20) => self.own_code(),
+            37 if self.random.one_in(8) => self.bad(),
+            38 if self.random.one_in(8) => self.put_bare(12),
+            39 if self.random.one_in(8) => self.put_bare(0),
+            _ => self.compute(),
+        }
+    }
+
+    fn compute(&mut self) {
+        for _ in 0..self.random.from(1, 3) {
+            let opcode = self.random.from(2, 6) as u8;
+            let (a, b, c) = (self.register(), self.register(), self.register());
+            self.put(opcode, a, b, c);
+        }
+    }
+
+    /// A segment that the partition may load from (7) or store into (8), or once in a while any other.
+    fn segment(&mut self, opcode: u8) -> Option<u8> {
+        if self.random.one_in(self.daring) {
+            return Some(match self.random.below(8) {
+                0 => self.policy.save[self.partition],
+                1 => self.policy.segments,
+                2 => self.random.byte(),
+                _ => self.random.below(self.policy.segments as usize) as u8,
+            });
+        }
+        let bit = if opcode == 7 { 1 } else { 2 };
+        let rights = &self.policy.rights[32 * self.partition..32 * self.partition + 32];
+        let open: Vec<u8> = (0..32).filter(|&s| rights[s as usize] & bit != 0).collect();
+        (!open.is_empty()).then(|| self.random.pick(&open))
+    }
+
+    fn offset(&mut self, segment: u8) -> usize {
+        let size = self.policy.size.get(segment as usize).copied().unwrap_or(1) as usize;
+        match self.random.below(100) {
+            0 => size,
+            1 => size + 1,
+            2 => 0xFFFF,
+            3..=6 => size.saturating_sub(1),
+            7..=12 => 0,
+            _ => self.random.below(size.max(1)),
+        }
+    }
+
+    /// One load or store at a set offset.
+    fn transfer(&mut self, opcode: u8) {
+        let Some(segment) = self.segment(opcode) else { return self.compute() };
+        let offset = self.offset(segment);
+        let (a, b) = (self.register(), self.register());
+        self.put_n(1, b, offset);
+        if self.random.one_in(150) {
+            // An offset over 16 bits whose low half is in range.
+            self.put_n(1, 6, 0x100);
+            self.put(2, b, b, 6);
+            for _ in 0..8 {
+                self.put(2, b, b, b);
+            }
+        }
+        self.put(opcode, a, b, segment);
+    }
+
+    /// Bytes from a segment that may be read into one that may be written: so bytes are handed on from partition to partition.
+    fn copy_loop(&mut self) {
+        let (Some(from), Some(to)) = (self.segment(7), self.segment(8)) else { return self.count_loop() };
+        let size = |s: u8| self.policy.size.get(s as usize).copied().unwrap_or(1) as usize;
+        let most = size(from).min(size(to)).max(1);
+        let count = if self.random.one_in(50) { most + 1 } else { self.random.from(1, most.min(24)) };
+        self.put_n(1, 0, count);
+        self.put_n(1, 1, 1);
+        let top = self.code.len();
+        // From the last byte down to the first.
+        self.put(3, 0, 0, 1);
+        self.put(7, 2, 0, from);
+        if self.random.one_in(3) {
+            let c = self.register();
+            self.put(5, 2, 2, c);
+        }
+        self.put(8, 2, 0, to);
+        self.put_n(9, 0, top);
+    }
+
+    fn count_loop(&mut self) {
+        let count = self.random.from(1, 6);
+        self.put_n(1, 5, count);
+        self.put_n(1, 4, 1);
+        let top = self.code.len();
+        for _ in 0..self.random.from(1, 2) {
+            match self.random.below(4) {
+                0 => self.transfer(7),
+                1 => self.transfer(8),
+                _ => self.compute(),
+            }
+        }
+        self.put(3, 5, 5, 4);
+        self.put_n(9, 5, top);
+    }
+
+    /// A place in the code, mostly one where an instruction begins.
+    fn place(&mut self) -> usize {
+        match self.random.below(30) {
+            0 => self.random.below(self.room),
+            1 => self.room.saturating_sub(self.random.pick(&[0, 1, 3, 4, 5])),
+            2 => self.random.pick(&[0xFFFF, 0xFFFC, 0xFFFD, 4_096, 0x8000]),
+            _ => 4 * self.random.below(self.handler / 4 + 1),
+        }
+    }
+
+    fn jump(&mut self) {
+        let (a, n) = (self.register(), self.place());
+        if self.random.one_in(2) {
+            let value = self.random.below(2);
+            self.put_n(1, a, value);
+        }
+        self.put_n(9, a, n);
+    }
+
+    /// A store into the code that the partition runs: it works where the policy gives w on the code segment.
+    fn own_code(&mut self) {
+        let code = self.policy.code[self.partition];
+        let (offset, value) = (self.random.below(self.room), self.random.below(14));
+        self.put_n(1, 3, offset);
+        self.put_n(1, 2, value);
+        self.put(8, 2, 3, code);
+    }
+
+    /// A bad opcode or a bad register; also good ones with bytes that need not be registers.
+    fn bad(&mut self) {
+        let (a, b, c) = (self.random.byte(), self.random.byte(), self.random.byte());
+        let (x, y, z) = (self.register(), self.register(), self.register());
+        let (opcode, high) = (self.random.from(1, 9) as u8, self.random.pick(&[8, 9, 15, 16, 128, 255]));
+        match self.random.below(6) {
+            0 => self.put(self.code.len() as u8 % 243 + 13, x, y, z),
+            1 => self.put(13, x, y, z),
+            2 => self.put(opcode, high, y, z),
+            3 => self.put(opcode, x, high, z),
+            4 => self.put(opcode, x, y, high),
+            _ => self.put(opcode, a, b, c),
+        }
+    }
+}

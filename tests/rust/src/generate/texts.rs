@@ -1,0 +1,154 @@
+//! Random policy texts: accepted ones, mutated ones, and texts put together line by line or byte by byte.
+
+use super::mutations::{join, mutate, split};
+use super::policies::{longest, policy, Shape};
+use crate::boundary::Policy;
+use crate::random::Random;
+use crate::reference::print;
+
+pub fn text_of(policy: &Policy) -> Vec<u8> {
+    print(policy).expect("counts within the tables").into_bytes()
+}
+
+/// One text of any sort.
+pub fn text(random: &mut Random) -> Vec<u8> {
+    match random.below(20) {
+        0 => text_of(&any_policy(random)),
+        1..=2 => soup(random),
+        3 => bytes(random),
+        _ => {
+            let mut lines = split(&text_of(&any_policy(random)));
+            // One mutation mostly; more of them for lines that break two rules, and for the order of bad lines.
+            for _ in 0..random.pick(&[1, 1, 1, 2, 2, 3, 5]) {
+                mutate(random, &mut lines);
+            }
+            let mut text = join(&lines);
+            if random.one_in(8) {
+                spoil_bytes(random, &mut text);
+            }
+            text
+        }
+    }
+}
+
+fn any_policy(random: &mut Random) -> Policy {
+    if random.one_in(300) {
+        return longest();
+    }
+    let shape = match random.below(60) {
+        0 => Shape::DENSE,
+        1..=8 => Shape::LARGE,
+        _ => Shape::any(random),
+    };
+    policy(random, shape)
+}
+
+/// Changes below the level of fields: single bytes, line ends, the text's length.
+fn spoil_bytes(random: &mut Random, text: &mut Vec<u8>) {
+    const BYTES: [u8; 16] = [b'\t', b'\n', b'\r', b' ', 0, b'0', b'1', b'9', b'r', b'w', b's', b'/', b':', 0x0B, 0x7F, 0xFF];
+    if text.is_empty() {
+        return text.push(random.pick(&BYTES));
+    }
+    let at = random.below(text.len());
+    match random.below(9) {
+        0 => text[at] = random.pick(&BYTES),
+        1 => text[at] ^= 1 << random.below(8),
+        2 => text.insert(at, random.pick(&BYTES)),
+        3 => drop(text.remove(at)),
+        4 => text.truncate(at),
+        // The last line end cut off.
+        5 => drop(text.pop()),
+        // Bytes after the last line end.
+        6 => text.extend_from_slice(random.pick(&[b"slot\t0\t1" as &[u8], b"x", b"\t", b"\r", b"\n", b"\n\n"])),
+        7 => {
+            if let Some(end) = text[at..].iter().position(|&byte| byte == b'\n') {
+                text.insert(at + end, b'\r');
+            }
+        }
+        // To a length near the limit, with a byte that may or may not be a line's.
+        _ => {
+            let length = random.pick(&[16_383, 16_384, 16_385, 16_386, 20_000, 65_536 + 300]);
+            let last = text.len().min(random.from(1, 20));
+            let tail = text[text.len() - last..].to_vec();
+            while text.len() < length {
+                text.push(tail[text.len() % last]);
+            }
+            text.truncate(length);
+        }
+    }
+}
+
+/// Lines put together one by one: mostly in order and in range.
+fn soup(random: &mut Random) -> Vec<u8> {
+    let mut text = String::new();
+    let mut counts = [0, 0];
+    let number = |random: &mut Random, most: usize| match random.below(30) {
+        0 => random.pick(&[0, 7, 8, 31, 32, 33, 44, 4_096, 4_097, 16_384, 65_536, 99_999]),
+        1 => most,
+        _ => random.below(most.max(1)),
+    };
+    let mut base = 0;
+    for kind in 0..5 {
+        let lines = random.pick(&[0, 1, 1, 2, 2, 3, 4, 6]);
+        let mut pair = (0, 0);
+        for _ in 0..lines {
+            let kind = if random.one_in(60) { random.below(5) } else { kind };
+            let next = |random: &mut Random, count: usize| if random.one_in(60) { number(random, count) } else { count };
+            pair = match random.below(12) {
+                0 => pair,
+                1..=8 => (pair.0, pair.1 + random.from(1, 2)),
+                _ => (pair.0 + 1, random.below(2)),
+            };
+            text += &match kind {
+                0 => {
+                    let length = random.pick(&[44, 44, 44, 44, 12, 1, 64]);
+                    let at = if random.one_in(15) { number(random, 400) } else { base };
+                    base = at + length;
+                    let line = format!("segment\t{}\t{at}\t{length}\n", next(random, counts[0]));
+                    counts[0] += 1;
+                    line
+                }
+                1 => {
+                    let line = format!("partition\t{}\t{}\t{}\n", next(random, counts[1]), number(random, counts[0]), number(random, counts[0]));
+                    counts[1] += 1;
+                    line
+                }
+                2 => format!("right\t{}\t{}\t{}\n", pair.0, pair.1, random.pick(&["r", "r", "rw", "w"])),
+                3 => format!("flow\t{}\t{}\n", pair.0, pair.1),
+                _ => format!("slot\t{}\t{}\n", number(random, counts[1]), random.pick(&[1, 2, 3, 1_000, 1_000, 1_001, 0])),
+            };
+        }
+    }
+    text.into_bytes()
+}
+
+/// Bytes and pieces of lines in no order.
+fn bytes(random: &mut Random) -> Vec<u8> {
+    const PIECES: [&[u8]; 20] = [
+        b"segment",
+        b"partition",
+        b"right",
+        b"flow",
+        b"slot",
+        b"\t",
+        b"\t",
+        b"\t",
+        b"\n",
+        b"0",
+        b"1",
+        b"44",
+        b"r",
+        b"w",
+        b"rw",
+        b" ",
+        b"\r",
+        b"\0",
+        b"segment\t0\t0\t44\n",
+        b"slot\t0\t1\n",
+    ];
+    let mut text = Vec::new();
+    for _ in 0..random.below(12) {
+        text.extend_from_slice(random.pick(&PIECES));
+    }
+    text
+}

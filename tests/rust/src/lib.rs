@@ -1,0 +1,26 @@
+//! An independent implementation of the separation kernel, written from the scope document alone, and what holds the proved kernel to it: generators
+//! of texts, records, programs and call lists, the comparison, and the test of separation over whole runs.
+
+#[cfg(feature = "archive")]
+pub mod archive;
+pub mod boundary;
+pub mod compare;
+pub mod generate;
+pub mod leaky;
+pub mod pairs;
+pub mod random;
+pub mod reference;
+pub mod show;
+pub mod shrink;
+pub mod tuned;
+
+use boundary::Kernel;
+
+/// The kernels that are held to the reference: the tuned one, and the proved one where it is linked.
+pub fn kernels() -> Vec<Box<dyn Kernel>> {
+    vec![
+        Box::new(tuned::Tuned),
+        #[cfg(feature = "archive")]
+        Box::new(archive::Archive),
+    ]
+}

@@ -1,0 +1,240 @@
+//! The same operations, tuned: the measure for the benchmark. Safe Rust, the policy by reference, and one tick at a time on the bytes in memory.
+
+mod reader;
+mod record;
+
+pub use reader::read;
+pub use record::sound;
+
+use crate::boundary::{Kernel, Place, Policy, ReadResult, RunResult, MEMORY};
+
+pub struct Tuned;
+
+impl Kernel for Tuned {
+    fn name(&self) -> &'static str {
+        "tuned"
+    }
+    fn read(&self, text: &[u8]) -> ReadResult {
+        read(text)
+    }
+    fn sound(&self, policy: &Policy) -> u32 {
+        sound(policy) as u32
+    }
+    fn start(&self, policy: &Policy, memory: &mut [u8]) -> RunResult {
+        start(policy, memory)
+    }
+    fn pend(&self, policy: &Policy, memory: &mut [u8], partition: u32, line: u32) -> u32 {
+        pend(policy, memory, partition, line)
+    }
+    fn run(&self, policy: &Policy, memory: &mut [u8], place: Place, ticks: u32) -> RunResult {
+        run(policy, memory, place, ticks)
+    }
+}
+
+type Memory = [u8; MEMORY];
+
+fn admit<'m>(policy: &Policy, memory: &'m mut [u8]) -> Result<&'m mut Memory, u32> {
+    let memory = <&mut Memory>::try_from(memory).map_err(|_| 9_u32)?;
+    if sound(policy) {
+        Ok(memory)
+    } else {
+        Err(10)
+    }
+}
+
+pub fn start(policy: &Policy, memory: &mut [u8]) -> RunResult {
+    let number = match admit(policy, memory) {
+        Err(number) => number,
+        Ok(memory) => {
+            for &save in &policy.save[..policy.partitions as usize] {
+                let base = policy.base[save as usize] as usize;
+                memory[base..base + 44].fill(0);
+            }
+            0
+        }
+    };
+    RunResult { number, place: Place::FIRST }
+}
+
+pub fn pend(policy: &Policy, memory: &mut [u8], partition: u32, line: u32) -> u32 {
+    match admit(policy, memory) {
+        Err(number) => number,
+        Ok(_) if partition >= u32::from(policy.partitions) => 11,
+        Ok(_) if line > 7 => 12,
+        Ok(memory) => {
+            memory[policy.base[policy.save[partition as usize] as usize] as usize + 36] |= 1 << line;
+            0
+        }
+    }
+}
+
+pub fn run(policy: &Policy, memory: &mut [u8], place: Place, ticks: u32) -> RunResult {
+    let memory = match admit(policy, memory) {
+        Ok(memory) => memory,
+        Err(number) => return RunResult { number, place },
+    };
+    if place.slot >= u32::from(policy.slots) || place.used >= u32::from(policy.slot_ticks[place.slot as usize]) {
+        return RunResult { number: 13, place };
+    }
+    if ticks > 10_000 {
+        return RunResult { number: 14, place };
+    }
+    let (mut slot, mut used, mut left) = (place.slot as usize, place.used, ticks);
+    while left > 0 {
+        let whole = u32::from(policy.slot_ticks[slot]);
+        let now = left.min(whole - used);
+        let view = View::new(policy, policy.slot_partition[slot] as usize);
+        for _ in 0..now {
+            view.tick(memory);
+        }
+        left -= now;
+        used += now;
+        if used == whole {
+            used = 0;
+            slot = if slot + 1 < policy.slots as usize { slot + 1 } else { 0 };
+        }
+    }
+    RunResult { number: 0, place: Place { slot: slot as u32, used } }
+}
+
+/// What a tick of one partition needs of the policy.
+struct View<'p> {
+    policy: &'p Policy,
+    save: usize,
+    code: usize,
+    code_size: usize,
+    rights: &'p [u8; 32],
+}
+
+impl<'p> View<'p> {
+    fn new(policy: &'p Policy, partition: usize) -> View<'p> {
+        let code = policy.code[partition] as usize;
+        View {
+            policy,
+            save: policy.base[policy.save[partition] as usize] as usize,
+            code: policy.base[code] as usize,
+            code_size: policy.size[code] as usize,
+            rights: policy.rights[32 * partition..32 * partition + 32].try_into().unwrap(),
+        }
+    }
+
+    #[inline(always)]
+    fn save<'m>(&self, memory: &'m mut Memory) -> &'m mut [u8; 44] {
+        (&mut memory[self.save..self.save + 44]).try_into().unwrap()
+    }
+
+    #[inline(always)]
+    fn tick(&self, memory: &mut Memory) {
+        let save = self.save(memory);
+        let state = save[34];
+        let in_handler = save[42] != 0;
+        let lines = save[36] & save[37];
+        if lines != 0 && !in_handler && (state == 0 || state == 3) {
+            let line = lines.trailing_zeros();
+            save[36] &= !(1 << line);
+            set_register(save, 7, line);
+            (save[38], save[39]) = (save[32], save[33]);
+            (save[32], save[33]) = (save[40], save[41]);
+            save[42] = 1;
+            save[34] = 0;
+        } else if state == 0 {
+            if let Err(fault) = self.step(memory, in_handler) {
+                let save = self.save(memory);
+                save[34] = 2;
+                save[35] = fault;
+            }
+        }
+    }
+
+    #[inline(always)]
+    fn step(&self, memory: &mut Memory, in_handler: bool) -> Result<(), u8> {
+        let counter = two(self.save(memory), 32) as usize;
+        if counter + 4 > self.code_size {
+            return Err(1);
+        }
+        let at = self.code + counter;
+        let [opcode, a, b, c]: [u8; 4] = memory[at..at + 4].try_into().unwrap();
+        let n = u16::from_le_bytes([b, c]);
+        let save = self.save(memory);
+        let mut next = counter as u16 + 4;
+        match opcode {
+            0 => {
+                save[34] = 1;
+                return Ok(());
+            }
+            1 if a < 8 => set_register(save, a, u32::from(n)),
+            2..=6 if (a | b | c) < 8 => {
+                let (x, y) = (register(save, b), register(save, c));
+                let value = match opcode {
+                    2 => x.wrapping_add(y),
+                    3 => x.wrapping_sub(y),
+                    4 => x & y,
+                    5 => x ^ y,
+                    _ => x >> (y & 31),
+                };
+                set_register(save, a, value);
+            }
+            7 if (a | b) < 8 => {
+                let offset = register(save, b);
+                let place = self.place(c, 1, offset)?;
+                let byte = memory[place];
+                set_register(self.save(memory), a, u32::from(byte));
+            }
+            8 if (a | b) < 8 => {
+                let (offset, byte) = (register(save, b), register(save, a) as u8);
+                let place = self.place(c, 2, offset)?;
+                memory[place] = byte;
+            }
+            9 if a < 8 => {
+                if register(save, a) != 0 {
+                    next = n;
+                }
+            }
+            10 if in_handler => return Err(5),
+            10 => save[34] = 3,
+            11 => {
+                save[37] = a;
+                (save[40], save[41]) = (b, c);
+            }
+            12 if !in_handler => return Err(5),
+            12 => {
+                next = two(save, 38);
+                save[42] = 0;
+            }
+            _ => return Err(2),
+        }
+        let save = self.save(memory);
+        [save[32], save[33]] = next.to_le_bytes();
+        Ok(())
+    }
+
+    /// The byte at an offset of segment c, if the partition has the right on it. A record's unused rights are 0, so a segment that isn't there has none.
+    #[inline(always)]
+    fn place(&self, c: u8, right: u8, offset: u32) -> Result<usize, u8> {
+        let c = c as usize;
+        if c >= 32 || self.rights[c] & right == 0 {
+            return Err(3);
+        }
+        if offset >= u32::from(self.policy.size[c]) {
+            return Err(4);
+        }
+        Ok(self.policy.base[c] as usize + offset as usize)
+    }
+}
+
+#[inline(always)]
+fn two(save: &[u8; 44], at: usize) -> u16 {
+    u16::from_le_bytes([save[at], save[at + 1]])
+}
+
+#[inline(always)]
+fn register(save: &[u8; 44], r: u8) -> u32 {
+    let at = 4 * (r & 7) as usize;
+    u32::from_le_bytes(save[at..at + 4].try_into().unwrap())
+}
+
+#[inline(always)]
+fn set_register(save: &mut [u8; 44], r: u8, value: u32) {
+    let at = 4 * (r & 7) as usize;
+    save[at..at + 4].copy_from_slice(&value.to_le_bytes());
+}

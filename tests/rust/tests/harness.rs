@@ -1,0 +1,128 @@
+//! The tests' own tools: what they generate is what they say, differences are found and made short, and leaky kernels are caught.
+
+use separation::boundary::{Kernel, Place, Policy, ReadResult, RunResult, MEMORY};
+use separation::compare::{list_difference, text_difference, text_gives};
+use separation::generate::lists::{list, Call};
+use separation::generate::policies::{longest, policy, Shape};
+use separation::generate::texts::text;
+use separation::leaky::{Leaky, LEAKS};
+use separation::pairs::{bytes_of, check, explain, run_pair, tick_pair};
+use separation::random::Random;
+use separation::reference::{self, sound, sources, Reference, ENABLED};
+use separation::{show, shrink};
+
+#[test]
+fn generated_policies_are_sound() {
+    let mut random = Random::new(11);
+    for _ in 0..3_000 {
+        let shape = Shape::any(&mut random);
+        let policy = policy(&mut random, shape);
+        assert!(sound(&policy) && text_gives(&policy), "{}", show::policy(&policy));
+    }
+    assert!(sound(&longest()));
+}
+
+/// Wrong in two places: a length of 4,097 is refused as an overlap, and listen enables no line.
+struct Wrong;
+
+impl Kernel for Wrong {
+    fn name(&self) -> &'static str {
+        "wrong"
+    }
+    fn read(&self, text: &[u8]) -> ReadResult {
+        let mut answer = reference::read(text);
+        if answer.number == 4 && text.windows(6).any(|bytes| bytes == b"\t4097\n") {
+            answer.number = 5;
+        }
+        answer
+    }
+    fn sound(&self, policy: &Policy) -> u32 {
+        reference::sound(policy) as u32
+    }
+    fn start(&self, policy: &Policy, memory: &mut [u8]) -> RunResult {
+        reference::start(policy, memory)
+    }
+    fn pend(&self, policy: &Policy, memory: &mut [u8], partition: u32, line: u32) -> u32 {
+        reference::pend(policy, memory, partition, line)
+    }
+    fn run(&self, policy: &Policy, memory: &mut [u8], place: Place, ticks: u32) -> RunResult {
+        let enabled: Vec<usize> = (0..8).map(|p| policy.base[policy.save[p] as usize % 32] as usize + ENABLED).collect();
+        let before: Vec<u8> = enabled.iter().map(|&at| memory.get(at).copied().unwrap_or(0)).collect();
+        let result = reference::run(policy, memory, place, ticks);
+        if result.number == 0 {
+            enabled.iter().zip(before).take(policy.partitions as usize).for_each(|(&at, byte)| memory[at] = byte);
+        }
+        result
+    }
+}
+
+#[test]
+fn a_wrong_reader_is_found_and_the_text_is_made_short() {
+    let mut random = Random::new(12);
+    let found = (0..20_000).map(|_| text(&mut random)).find(|text| text_difference(&Wrong, text).is_some()).expect("a text that tells");
+    let short = shrink::shrink_text(&found, &mut |text| text_difference(&Wrong, text).is_some());
+    // The bad length alone: an id in order, any base, and the length.
+    assert_eq!(show::text(&short).lines().count(), 2, "{}", show::text(&short));
+    assert!(short.ends_with(b"\t4097\n"));
+}
+
+#[test]
+fn a_wrong_run_is_found_and_the_list_is_made_short() {
+    let mut random = Random::new(13);
+    let found = (0..5_000).map(|_| list(&mut random)).find(|list| list_difference(&Wrong, list).is_some()).expect("a list that tells");
+    let short = shrink::shrink_list(&found, &mut |list| list_difference(&Wrong, list).is_some());
+    assert_eq!(short.steps.len(), 1, "{}", show::list(&short));
+    assert!(matches!(short.steps[0].call, Call::Run { .. }));
+    assert!(short.memory[..MEMORY].iter().filter(|&&byte| byte != 0).count() < 40, "{}", show::list(&short));
+}
+
+#[test]
+fn pairs_are_as_the_demand_has_them() {
+    let mut random = Random::new(14);
+    for _ in 0..2_000 {
+        let pair = run_pair(&mut random);
+        let same = sources(&pair.policy, pair.target);
+        let segments = pair.policy.segments as usize;
+        for segment in (0..segments).filter(|&segment| same[segment]) {
+            let bytes = bytes_of(&pair.policy, segment);
+            assert_eq!(pair.memories[0][bytes.clone()], pair.memories[1][bytes]);
+        }
+        // The lines pended between the same ticks, for partitions whose save segment is a source.
+        let pended = [0, 1].map(|side| {
+            let (mut done, mut place, mut lines) = (0, pair.places[side], Vec::new());
+            for call in &pair.lists[side] {
+                match *call {
+                    Call::Run { ticks, .. } => {
+                        let result = reference::run(&pair.policy, &mut [0; MEMORY], place, ticks);
+                        done += if result.number == 0 { ticks } else { 0 };
+                        place = result.place;
+                    }
+                    Call::Pend { partition, line } => {
+                        let there = partition < u32::from(pair.policy.partitions) && line < 8;
+                        if there && same[pair.policy.save[partition as usize] as usize] {
+                            lines.push((done, partition, line));
+                        }
+                    }
+                    Call::Start => panic!("no Start in these lists"),
+                }
+            }
+            lines.sort();
+            lines.dedup();
+            (done, lines)
+        });
+        assert_eq!(pended[0], pended[1]);
+        assert!(check(&Reference, &pair).leak.is_none(), "{}", explain(&Reference, &pair));
+        let pair = tick_pair(&mut random);
+        assert!(check(&Reference, &pair).leak.is_none(), "{}", explain(&Reference, &pair));
+    }
+}
+
+#[test]
+fn leaky_kernels_are_caught() {
+    for leak in LEAKS.into_iter().filter(|&leak| leak != separation::leaky::Leak::RuleEightWithoutSave) {
+        let mut random = Random::new(15);
+        let pair = (0..20_000).map(|_| run_pair(&mut random)).find(|pair| check(&Leaky(leak), pair).leak.is_some());
+        let pair = pair.unwrap_or_else(|| panic!("{leak:?} is not caught"));
+        assert!(explain(&Leaky(leak), &pair).contains("target: segment"));
+    }
+}
