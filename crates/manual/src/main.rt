@@ -1,0 +1,13 @@
+// Checks the examples of the manuals with the proved code: reads the manuals, finds their fenced blocks, and writes a line
+// for each. A block that is wrong, unknown or not closed gets the word WRONG, so the stored output has only right ones.
+mod file;
+mod lines;
+mod program;
+mod reading;
+mod show;
+mod words;
+
+fn main() {
+    file::check_file(b"POLICY.md");
+    file::check_file(b"PROGRAMMING.md");
+}
