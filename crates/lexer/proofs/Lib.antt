@@ -1,2 +1,3 @@
--- Laws of the definitions, one subject a file.
+-- Laws of the definitions, one subject a file; and what the proofs by hand of the readers share.
 pub mod Laws
+pub mod Walk

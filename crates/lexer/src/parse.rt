@@ -1,122 +1,163 @@
 // A whole line, from its first field to its end.
+ghost use Prim.Native.Nat.{_<_, _≤_};
 ghost use mathlib.Core.Path.{_≡_};
-ghost use lib.ListN.{drop};
-ghost use Rattle.text.specs.Cut.{fieldsOf};
-ghost use Rattle.text.specs.Lines.{lineOf, segmentLine, partitionLine, rightLine, flowLine, slotLine};
-ghost use Rattle.text.specs.Places.{fieldsAfter};
+ghost use lib.ListN.{length};
+ghost use Rattle.lexer.specs.Cursor.{fieldsRead, lineRead};
+ghost use Rattle.lexer.specs.Said.{twoSay, threeSay, rightSays, lettersSay, numberSays, restSays, fieldsSay};
 use text::Cursor;
-use text::Field;
 use text::Kind;
 use text::Line;
+use text::Number;
 
-fn segment_line(line: &[u8], c: Cursor) -> Line
-    ensures { λ r. ⌜ r ≡ segmentLine (fieldsAfter (now (line .entry)) (c .at)) ⌝ }
-{
-    let Field::Found(id, c1) = crate::field::next_number(line, c) else {
-        return Line::Bad;
-    };
-    let Field::Found(base, c2) = crate::field::next_number(line, c1) else {
-        return Line::Bad;
-    };
-    let Field::Found(size, c3) = crate::field::next_number(line, c2) else {
-        return Line::Bad;
-    };
-    if c3.at < line.len() {
-        return Line::Bad;
-    }
-    Line::Segment { id, base, size }
+// What stands in a line, by the readers' order: every line has the record word and two numbers, then letters, a number or
+// nothing, and the line end. `next` is where the last reader leaves the place.
+pub struct FieldsRead {
+    pub kind: Kind,
+    pub first: Number,
+    pub second: Number,
+    pub letters: Number,
+    pub third: Number,
+    pub ended: bool,
+    pub next: Cursor,
 }
 
-fn partition_line(line: &[u8], c: Cursor) -> Line
-    ensures { λ r. ⌜ r ≡ partitionLine (fieldsAfter (now (line .entry)) (c .at)) ⌝ }
-{
-    let Field::Found(id, c1) = crate::field::next_number(line, c) else {
-        return Line::Bad;
-    };
-    let Field::Found(code, c2) = crate::field::next_number(line, c1) else {
-        return Line::Bad;
-    };
-    let Field::Found(save, c3) = crate::field::next_number(line, c2) else {
-        return Line::Bad;
-    };
-    if c3.at < line.len() {
-        return Line::Bad;
-    }
-    Line::Partition { id, code, save }
+// What a line says, and where the place is left.
+pub struct LineRead {
+    pub line: Line,
+    pub next: Cursor,
 }
 
-fn right_line(line: &[u8], c: Cursor) -> Line
-    ensures { λ r. ⌜ r ≡ rightLine (fieldsAfter (now (line .entry)) (c .at)) ⌝ }
+// The place is lent to one reader after another; which of them found their field is for fields_say to judge. `line` is
+// the text up to the line's end.
+fn fields_from(text: &[u8], line: &[u8], at: usize, n: u32) -> FieldsRead
+    requires { ⌜ n < 4294967295 ⌝ }
+    ensures { λ r. ⌜ r ≡ fieldsRead (now (text .entry)) (now (line .entry)) at n ⌝ }
 {
-    let Field::Found(partition, c1) = crate::field::next_number(line, c) else {
-        return Line::Bad;
-    };
-    let Field::Found(segment, c2) = crate::field::next_number(line, c1) else {
-        return Line::Bad;
-    };
-    let Field::Found(mode, c3) = crate::field::next_letters(line, c2) else {
-        return Line::Bad;
-    };
-    if c3.at < line.len() {
-        return Line::Bad;
-    }
-    Line::Right {
-        partition,
-        segment,
-        mode,
+    let mut c = Cursor { at, line: n };
+    let kind = crate::take::take_word(line, &mut c);
+    let first = crate::take::take_number(line, &mut c);
+    let second = crate::take::take_number(line, &mut c);
+    let letters = crate::take::take_letters(line, &mut c);
+    let third = crate::take::take_number(line, &mut c);
+    let ended = crate::take::take_end(text, &mut c);
+    FieldsRead {
+        kind,
+        first,
+        second,
+        letters,
+        third,
+        ended,
+        next: c,
     }
 }
 
-fn flow_line(line: &[u8], c: Cursor) -> Line
-    ensures { λ r. ⌜ r ≡ flowLine (fieldsAfter (now (line .entry)) (c .at)) ⌝ }
+// Two numbers and nothing more.
+fn two_say(kind: Kind, a: u32, b: u32) -> Line
+    ensures { λ r. ⌜ r ≡ twoSay kind a b ⌝ }
 {
-    let Field::Found(from, c1) = crate::field::next_number(line, c) else {
-        return Line::Bad;
-    };
-    let Field::Found(to, c2) = crate::field::next_number(line, c1) else {
-        return Line::Bad;
-    };
-    if c2.at < line.len() {
-        return Line::Bad;
-    }
-    Line::Flow { from, to }
-}
-
-fn slot_line(line: &[u8], c: Cursor) -> Line
-    ensures { λ r. ⌜ r ≡ slotLine (fieldsAfter (now (line .entry)) (c .at)) ⌝ }
-{
-    let Field::Found(partition, c1) = crate::field::next_number(line, c) else {
-        return Line::Bad;
-    };
-    let Field::Found(ticks, c2) = crate::field::next_number(line, c1) else {
-        return Line::Bad;
-    };
-    if c2.at < line.len() {
-        return Line::Bad;
-    }
-    Line::Slot { partition, ticks }
-}
-
-// What the line at a cursor says; `line` is the text up to that line's end. Past the end it is Bad.
-pub fn line_at(line: &[u8], c: Cursor) -> Line
-    ensures { λ r. ⌜ r ≡ lineOf (fieldsOf (drop (c .at) (now (line .entry)))) ⌝ }
-{
-    let at = c.at;
-    if line.len() < at {
-        return Line::Bad;
-    }
-    let end = crate::scan::find(line, at, b'\t');
-    let kind = crate::scan::kind_of(&line[at..end]);
-    let c1 = Cursor {
-        at: end,
-        line: c.line,
-    };
     match kind {
-        Kind::OfSegment => segment_line(line, c1),
-        Kind::OfPartition => partition_line(line, c1),
-        Kind::OfRight => right_line(line, c1),
-        Kind::OfFlow => flow_line(line, c1),
-        Kind::OfSlot => slot_line(line, c1),
-        Kind::Unknown => Line::Bad,
+        Kind::OfFlow => Line::Flow { from: a, to: b },
+        Kind::OfSlot => Line::Slot {
+            partition: a,
+            ticks: b,
+        },
+        _ => Line::Bad,
     }
+}
+
+// Three numbers.
+fn three_say(kind: Kind, a: u32, b: u32, c: u32) -> Line
+    ensures { λ r. ⌜ r ≡ threeSay kind a b c ⌝ }
+{
+    match kind {
+        Kind::OfSegment => Line::Segment {
+            id: a,
+            base: b,
+            size: c,
+        },
+        Kind::OfPartition => Line::Partition {
+            id: a,
+            code: b,
+            save: c,
+        },
+        _ => Line::Bad,
+    }
+}
+
+// Two numbers and letters.
+fn right_says(kind: Kind, a: u32, b: u32, mode: u32) -> Line
+    ensures { λ r. ⌜ r ≡ rightSays kind a b mode ⌝ }
+{
+    match kind {
+        Kind::OfRight => Line::Right {
+            partition: a,
+            segment: b,
+            mode,
+        },
+        _ => Line::Bad,
+    }
+}
+
+// After the letters nothing may stand.
+fn letters_say(kind: Kind, a: u32, b: u32, mode: u32, third: Number) -> Line
+    ensures { λ r. ⌜ r ≡ lettersSay kind a b mode third ⌝ }
+{
+    match third {
+        Number::Value(_) => Line::Bad,
+        Number::Malformed => right_says(kind, a, b, mode),
+    }
+}
+
+// No letters: a third number, or nothing.
+fn number_says(kind: Kind, a: u32, b: u32, third: Number) -> Line
+    ensures { λ r. ⌜ r ≡ numberSays kind a b third ⌝ }
+{
+    match third {
+        Number::Value(c) => three_say(kind, a, b, c),
+        Number::Malformed => two_say(kind, a, b),
+    }
+}
+
+// What stands after the two numbers decides, with the record word.
+fn rest_says(kind: Kind, a: u32, b: u32, letters: Number, third: Number) -> Line
+    ensures { λ r. ⌜ r ≡ restSays kind a b letters third ⌝ }
+{
+    match letters {
+        Number::Value(mode) => letters_say(kind, a, b, mode, third),
+        Number::Malformed => number_says(kind, a, b, third),
+    }
+}
+
+// The line that fields say, if it ends after them.
+fn fields_say(f: FieldsRead) -> Line
+    ensures { λ r. ⌜ r ≡ fieldsSay f ⌝ }
+{
+    let ended = f.ended;
+    if !ended {
+        return Line::Bad;
+    }
+    let first = f.first;
+    let Number::Value(a) = first else {
+        return Line::Bad;
+    };
+    let second = f.second;
+    let Number::Value(b) = second else {
+        return Line::Bad;
+    };
+    let kind = f.kind;
+    let letters = f.letters;
+    let third = f.third;
+    rest_says(kind, a, b, letters, third)
+}
+
+// The line at a place of a text: what it says, Bad also where it has no end, and the place after it.
+pub fn line_from(text: &[u8], at: usize, n: u32) -> LineRead
+    requires { ⌜ (at ≤ length (now text)) × (n < 4294967295) ⌝ }
+    ensures { λ r. ⌜ r ≡ lineRead (now (text .entry)) at n ⌝ }
+{
+    let end = crate::scan::find(text, at, b'\n');
+    let f = fields_from(text, &text[..end], at, n);
+    let line = fields_say(f);
+    let next = f.next;
+    LineRead { line, next }
 }

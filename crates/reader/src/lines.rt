@@ -54,11 +54,8 @@ pub(crate) fn read_lines(text: &[u8]) -> Reading
     let mut c = Cursor { at: 0, line: 1 };
     while c.at < text.len() {
         let n = c.line;
-        let end = lexer::find(text, c.at, b'\n');
-        if text.len() <= end {
-            return refused(Refusal::Malformed(n));
-        }
-        let line = lexer::line_at(&text[..end], c);
+        let read = lexer::line_from(text, c.at, n);
+        let line = read.line;
         let refusal = line_refusal(
             policy.segments,
             policy.partitions,
@@ -76,10 +73,7 @@ pub(crate) fn read_lines(text: &[u8]) -> Reading
         }
         policy = added(policy, line);
         before = key_of(line);
-        c = Cursor {
-            at: end + 1,
-            line: n + 1,
-        };
+        c = read.next;
     }
     judged(policy)
 }

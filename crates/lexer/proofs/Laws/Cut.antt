@@ -1,16 +1,16 @@
 -- Where a piece ends, one byte more at a time, and what is left of the text after it: by induction on the bytes.
-use Prim.Native.Nat.{ℕ, suc, _+_, _-_, _<_, _≤_}
-use mathlib.Core.Path.{_≡_, refl}
+use Prim.Native.Nat.{ℕ, zero, suc, _+_, _-_, _<_, _≤_}
+use mathlib.Core.Path.{_≡_, refl, sym, _∙_, ap}
 use mathlib.Core.Bool.{Bool, true, false, cond}
 use mathlib.Core.List.{List, [], _∷_}
 use native.Mathlib.Numerals.{add-one}
 use native.Mathlib.Nat.{add-zero, add-assoc, suc-add, add-sub-cancel-left}
 use native.Mathlib.Omega.{arith}
 use native.Mathlib.Decide.{decLt}
-use borrow.Author.Tests.{lt-ltb, le-ltb, eq-eqb, ne-eqb}
+use borrow.Author.Tests.{lt-ltb, le-ltb, eq-eqb, ne-eqb, eqb-true, eqb-false}
 use lib.Dec.{eqb, ltb, leb·suc-suc}
 use lib.ListN.{length, take, drop, getD, length-drop, drop-of-length-le}
-use lib.Seq.{drop-cons, drop-drop}
+use lib.Seq.{drop-cons, drop-drop, getD-drop}
 use Rattle.text.specs.Cut.{cut, onto}
 use Rattle.text.specs.Places.{first, pieceAt, endAt}
 
@@ -54,6 +54,32 @@ module _ (b : ℕ) where
       go true h = refl
       go false h = rw (first-onto, h)
 
+  -- No separator stands in a piece, and one stands at its end.
+  piece-free : (l : List ℕ) (j : ℕ) → j < length (first (cut b l)) → getD l j 0 ≡ b → ⊥
+  unfolding cut
+  piece-free [] j h e = absurd (omega arith)
+  piece-free (x ∷ l) j h e = go (eqb x b) refl (piece-free l) j h e
+    where
+      go :
+          (t : Bool) → eqb x b ≡ t → ((j : ℕ) → j < length (first (cut b l)) → getD l j 0 ≡ b → ⊥) → (j : ℕ)
+          → j < length (first (cond t ([] ∷ cut b l) (onto x (cut b l)))) → getD (x ∷ l) j 0 ≡ b → ⊥
+      go true q f j h e = absurd (omega arith)
+      go false q f zero h e = eqb-false x b q e
+      go false q f (suc j) h e = f j (omega (arith, ap length (first-onto x (cut b l)))) e
+
+  piece-stop : (l : List ℕ) → length (first (cut b l)) < length l → getD l (length (first (cut b l))) 0 ≡ b
+  unfolding cut
+  piece-stop [] h = absurd (omega arith)
+  piece-stop (x ∷ l) h = go (eqb x b) refl (piece-stop l) h
+    where
+      go :
+          (t : Bool) → eqb x b ≡ t
+          → (length (first (cut b l)) < length l → getD l (length (first (cut b l))) 0 ≡ b)
+          → (let p = first (cond t ([] ∷ cut b l) (onto x (cut b l))) in
+          length p < suc (length l) → getD (x ∷ l) (length p) 0 ≡ b)
+      go true q f h = eqb-true x b q
+      go false q f h = rw first-onto (f (omega (arith, ap length (first-onto x (cut b l)))))
+
   -- The pieces after one that ends at place k: past its separator, or none at the end.
   abbrev after : List ℕ → ℕ → List (List ℕ)
   after l k = cond (ltb k (length l)) (cut b (drop (k + 1) l)) []
@@ -86,6 +112,19 @@ module _ (b : ℕ) where
     pub end-most : at ≤ length s → endAt b s at ≤ length s
     unfolding endAt pieceAt
     end-most h = omega (arith, piece-within (drop at s), length-drop at s)
+
+    -- No separator stands between a place and the end that is found for it, and one stands there.
+    pub end-first : (i : ℕ) → at ≤ i → i < endAt b s at → getD s i 0 ≡ b → ⊥
+    unfolding endAt pieceAt
+    end-first i h k e =
+        piece-free (drop at s) (i - at) (omega arith)
+        (getD-drop at s (i - at) 0 ∙ ap (λ (j : ℕ). getD s j 0) (let q : at + (i - at) ≡ i = omega arith in q) ∙ e)
+
+    pub end-there : endAt b s at < length s → getD s (endAt b s at) 0 ≡ b
+    unfolding endAt pieceAt
+    end-there h =
+        sym (getD-drop at s (length (first (cut b (drop at s)))) 0)
+        ∙ piece-stop (drop at s) (omega (arith, length-drop at s))
 
     pub piece-is : take (endAt b s at - at) (drop at s) ≡ pieceAt b s at
     unfolding endAt pieceAt

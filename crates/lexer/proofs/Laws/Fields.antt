@@ -5,16 +5,14 @@ use mathlib.Core.List.{List, [], _∷_}
 use native.Mathlib.Omega.{arith}
 use native.Mathlib.Decide.{decLt}
 use borrow.Author.Tests.{lt-ltb, le-ltb}
-use lib.ListN.{length, take, drop, drop-of-length-le}
+use lib.ListN.{length, take, drop}
 use Rattle.lexer.proofs.Laws.Cut.{cut-at, piece-is}
-use Rattle.text.specs.Bytes.{same}
-use Rattle.text.specs.Cut.{cut, fieldsOf, tab}
-use Rattle.text.specs.Lines.{given, next, last, lineOf, lineOfKind, wordOf}
+use Rattle.text.specs.Cut.{fieldsOf, tab}
+use Rattle.text.specs.Lines.{given, next, last}
 use Rattle.text.specs.Places.{pieceAt, endAt, fieldsAfter, found, fieldAfter}
 use Rattle.text.specs.declared.line.Cursor.{Cursor}
 use Rattle.text.specs.declared.line.Field.{Field}
 use Rattle.text.specs.declared.line.Field.the-variants.{Found, Missing}
-use Rattle.text.specs.declared.line.Kind.{Kind}
 use Rattle.text.specs.declared.line.Line.{Line}
 use Rattle.text.specs.declared.line.Line.the-variants.{Bad}
 use Rattle.text.specs.declared.line.Number.{Number}
@@ -89,16 +87,3 @@ module _ (read : List ℕ → Number) (line : List ℕ) (c : Cursor) where
       ≡ fieldAfter read line c
   unfolding fieldAfter
   field-some h e = rw (lt-ltb (c .at) (length line) h, e, piece-is)
-
-module _ (line : List ℕ) (at : ℕ) where
-  -- An empty word is no record word.
-  pub line-past : length line < at → lineOf (fieldsOf (drop at line)) ≡ Bad
-  unfolding lineOf cut wordOf same
-  line-past h = rw (drop-of-length-le line {i = at} (omega arith))
-
-  pub line-by :
-      {end : ℕ} {kind kind′ : Kind}
-      → end ≡ endAt tab line at → kind ≡ wordOf (take (end - at) (drop at line)) → kind ≡ kind′
-      → lineOf (fieldsOf (drop at line)) ≡ lineOfKind kind′ (fieldsAfter line end)
-  unfolding lineOf
-  line-by e k g = rw (← g, k, e, piece-is, fields-at)

@@ -1,33 +1,34 @@
 -- What holds whenever the reader stands before a line: what is left to read gives the answer of the whole text. A line is then bad, or is read into
 -- the draft, or there is none.
-use Prim.Native.Nat.{ℕ, zero, suc, _+_, _<_, _≤_}
-use mathlib.Core.Path.{_≡_, refl, sym, _∙_, ap}
-use mathlib.Core.Bool.{Bool, true, false, cond}
-use mathlib.Core.List.{List, [], _∷_}
+use Prim.Native.Nat.{ℕ, _+_, _<_, _≤_}
+use mathlib.Core.Path.{_≡_, sym, _∙_, ap}
+use mathlib.Core.Bool.{Bool, true, false, cond, true≢false}
+use mathlib.Core.List.{List}
 use native.Mathlib.Omega.{arith}
+use borrow.Author.Tests.{lt-ltb}
+use lib.Dec.{ltb}
 use lib.ListN.{length}
 use Rattle.text.specs.Cut.{lineEnd, fieldsOf}
-use Rattle.text.specs.Lines.{linesOf}
-use Rattle.text.specs.Places.{endAt}
+use Rattle.text.specs.Lines.{lineOf, linesOf}
+use Rattle.text.specs.Places.{pieceAt, endAt}
 use Rattle.text.specs.declared.line.Line.{Line}
 use Rattle.text.specs.declared.line.Line.the-variants.{Bad}
-use Rattle.text.proofs.Laws.Letters.{line-lettered}
+use Rattle.text.proofs.Laws.Letters.{Lettered, line-lettered}
 use Rattle.policy.specs.declared.record.Policy.{Policy}
 use Rattle.policy.specs.declared.record.Key.{Key}
 use Rattle.policy.specs.declared.record.Draft.{Draft}
-use Rattle.policy.specs.declared.record.Reading.{Reading}
-use Rattle.policy.specs.declared.record.Refusal.{Refusal}
-use Rattle.policy.specs.declared.record.Refusal.the-variants.{Malformed}
 use Rattle.policy.specs.Limits.{single}
 use Rattle.policy.specs.Order.{keyOf}
 use Rattle.policy.specs.Record.{zeros, viewOf}
-use Rattle.policy.specs.Draft.{added, begun, after}
+use Rattle.policy.specs.Draft.{added, begun}
 use Rattle.policy.specs.Refusals.{isAccepted}
 use Rattle.policy.specs.Read.{lineRefusal, wholeRefusal, answer, readLines}
 use Rattle.policy.proofs.Kept.{Kept, kept-none}
 use Rattle.policy.proofs.Accepted.{fine, kept-after}
+use Rattle.lexer.specs.Cursor.{lineAt, lineRead}
 use Rattle.lexer.proofs.Laws.Cut.{end-least}
-use Rattle.reader.proofs.Laws.Lines.{linesFrom, lineFrom, lines-all, line-next, line-open, lines-end}
+use Rattle.lexer.proofs.Laws.Line.{line-left}
+use Rattle.reader.proofs.Laws.Lines.{linesFrom, lines-all, line-next, lines-end}
 
 abbrev draft : Policy → Key → Draft
 draft policy before = record { policy = policy; before = before }
@@ -42,25 +43,43 @@ pub reached-first : (text : List ℕ) → Reached text zeros (record { kind = 0;
 reached-first text = record { same = rw (lines-all text); within = omega arith; counted = omega arith; kept = kept-none }
 
 module _ (text : List ℕ) (policy : Policy) (before : Key) (at n : ℕ) (r : Reached text policy before at n) where
-  pub stops-open : at < length text → length text ≤ endAt lineEnd text at → answer (Malformed n) zeros ≡ readLines single 1 begun (linesOf text)
-  unfolding readLines lineRefusal
-  stops-open h e = sym (r .same ∙ rw (line-open text at h e))
+  abbrev line : Line
+  line = lineAt text at
 
-  pub stops-refused : endAt lineEnd text at < length text → isAccepted (lineRefusal single n (draft policy before) (lineFrom text at)) ≡ false →
-      answer (lineRefusal single n (draft policy before) (lineFrom text at)) zeros ≡ readLines single 1 begun (linesOf text)
+  -- a line of the text has a mode of at most 3
+  pub at-lettered : Lettered line
+  unfolding lineAt
+  at-lettered = go (ltb (endAt lineEnd text at) (length text))
+    where
+      go : (t : Bool) → Lettered (cond t (lineOf (fieldsOf (pieceAt lineEnd text at))) Bad)
+      go true = line-lettered (fieldsOf (pieceAt lineEnd text at))
+      go false = tt
+
+  pub stops-refused : at < length text → isAccepted (lineRefusal single n (draft policy before) line) ≡ false →
+      answer (lineRefusal single n (draft policy before) line) zeros ≡ readLines single 1 begun (linesOf text)
   unfolding readLines
-  stops-refused e f = sym (r .same ∙ rw (line-next text at (r .within) e, f))
+  stops-refused h f = sym (r .same ∙ rw (line-next text at h, f))
 
-  pub reached-more : endAt lineEnd text at < length text → isAccepted (lineRefusal single n (draft policy before) (lineFrom text at)) ≡ true →
-      Reached text (added policy (lineFrom text at)) (keyOf (lineFrom text at)) (endAt lineEnd text at + 1) (n + 1)
-  unfolding readLines lineFrom
-  reached-more e f =
-      record {
-        same = r .same ∙ rw (line-next text at (r .within) e, f);
-        within = omega arith;
+  -- a line that is not refused is not bad, so it has an end
+  not-bad : isAccepted (lineRefusal single n (draft policy before) line) ≡ true → line ≡ Bad → ⊥
+  unfolding lineRefusal
+  not-bad f b = true≢false (sym f ∙ ap (λ l. isAccepted (lineRefusal single n (draft policy before) l)) b)
+
+  pub reached-more : at < length text → isAccepted (lineRefusal single n (draft policy before) line) ≡ true →
+      Reached text (added policy line) (keyOf line) (lineRead text at n .next .at) (lineRead text at n .next .line)
+  unfolding readLines
+  reached-more h f =
+      let left = line-left text at n (r .within) (not-bad f) in
+      rw (left .1)
+      (record {
+        same = r .same ∙ rw (line-next text at h, f, lt-ltb (endAt lineEnd text at) (length text) (left .0));
+        within = omega (arith, left .0);
         counted = omega (arith, r .counted, end-least lineEnd text at);
-        kept = kept-after (draft policy before) (lineFrom text at) (line-lettered _) (fine n (draft policy before) (lineFrom text at) f) (r .kept);
-      }
+        kept = kept-after (draft policy before) line at-lettered (fine n (draft policy before) line f) (r .kept);
+      })
+
+  pub moves-on : isAccepted (lineRefusal single n (draft policy before) line) ≡ true → at < lineRead text at n .next .at
+  moves-on f = rw (line-left text at n (r .within) (not-bad f) .1) (omega (arith, end-least lineEnd text at))
 
   pub stops-end : length text ≤ at → answer (wholeRefusal (viewOf policy)) policy ≡ readLines single 1 begun (linesOf text)
   unfolding readLines

@@ -1,16 +1,15 @@
--- One line read, as the code has it: the line's end, what the line says, and the answer of its rules are those of the definition.
-use Prim.Native.Nat.{ℕ, _+_, _<_, _≤_}
-use mathlib.Core.Path.{_≡_, refl, sym, _∙_, ap}
-use mathlib.Core.Bool.{Bool, true, false, _||_}
+-- One line read, as the code has it: what the line says, where the place is left, and the answer of the line's rules are
+-- those of the definition.
+use Prim.Native.Nat.{ℕ, _<_, _≤_}
+use mathlib.Core.Path.{_≡_, sym, _∙_, ap}
+use mathlib.Core.Bool.{true, false, _||_}
 use mathlib.Core.List.{List}
 use native.Mathlib.Omega.{arith}
-use lib.ListN.{length, take, drop}
-use Rattle.text.specs.Cut.{lineEnd, fieldsOf}
-use Rattle.text.specs.Lines.{linesOf, lineOf}
-use Rattle.text.specs.Places.{endAt}
+use lib.ListN.{length}
+use Rattle.text.specs.Lines.{linesOf}
 use Rattle.text.specs.declared.line.Line.{Line}
 use Rattle.text.specs.declared.line.Line.the-variants.{Bad, Segment, Partition, Right, Flow, Slot}
-use Rattle.text.proofs.Laws.Letters.{Lettered, line-lettered}
+use Rattle.text.proofs.Laws.Letters.{Lettered}
 use Rattle.policy.specs.declared.record.Policy.{Policy}
 use Rattle.policy.specs.declared.record.Key.{Key}
 use Rattle.policy.specs.declared.record.Draft.{Draft}
@@ -23,10 +22,11 @@ use Rattle.policy.specs.Refusals.{isAccepted}
 use Rattle.policy.specs.Read.{lineRefusal, answer, readLines}
 use Rattle.policy.proofs.Laws.Bools.{or-left, or-right}
 use Rattle.policy.proofs.Accepted.{fine}
+use Rattle.lexer.specs.Cursor.{lineAt, lineRead}
+use Rattle.lexer.specs.declared.parse.LineRead.{LineRead}
 use Rattle.linerules.specs.Parts.{partDraft, modeOf, Fits}
 use Rattle.linerules.proofs.Laws.Parts.{part-same}
-use Rattle.reader.proofs.Laws.Lines.{lineFrom}
-use Rattle.reader.proofs.Laws.Run.{Reached, stops-refused, reached-more}
+use Rattle.reader.proofs.Laws.Run.{Reached, at-lettered, stops-refused, reached-more, moves-on}
 
 mode-small : (line : Line) → Lettered line → modeOf line ≤ 3
 mode-small Bad h = omega arith
@@ -43,42 +43,47 @@ id-next before policy line h =
     (or-left (kindFalls before line || idSkips (viewOf policy) line) (pairFalls before line) h)
 
 module _ (text : List ℕ) (policy : Policy) (before : Key) (at n : ℕ) (r : Reached text policy before at n)
-    (end : ℕ) (line : Line) (refusal : Refusal)
-    (is-end : end ≡ endAt lineEnd text at)
-    (is-line : line ≡ lineOf (fieldsOf (drop at (take end text))))
-    (is-refusal : refusal ≡ lineRefusal single n (partDraft (policy .segments) (policy .partitions) (policy .slots) (policy .base) (policy .size) (policy .code) (policy .save) before) line)
-    (ended : end < length text) where
+    (inside : at < length text) (read : LineRead) (refusal : Refusal) (is-read : read ≡ lineRead text at n)
+    (is-refusal :
+    refusal
+    ≡ lineRefusal single n
+    (partDraft (policy .segments) (policy .partitions) (policy .slots) (policy .base) (policy .size) (policy .code)
+    (policy .save) before)
+    (read .line)) where
   abbrev draft : Draft
   draft = record { policy = policy; before = before }
 
-  same-line : line ≡ lineFrom text at
-  unfolding lineFrom
-  same-line = is-line ∙ rw is-end
+  same-line : read .line ≡ lineAt text at
+  unfolding lineRead
+  same-line = ap (λ l. l .line) is-read
 
-  same-refusal : refusal ≡ lineRefusal single n draft (lineFrom text at)
-  same-refusal = is-refusal ∙ sym (part-same n draft line) ∙ ap (lineRefusal single n draft) same-line
-
-  inside : endAt lineEnd text at < length text
-  inside = rw (← is-end) ended
+  same-refusal : refusal ≡ lineRefusal single n draft (lineAt text at)
+  same-refusal = is-refusal ∙ sym (part-same n draft (read .line)) ∙ ap (lineRefusal single n draft) same-line
 
   pub step-refused : isAccepted refusal ≡ false → answer refusal zeros ≡ readLines single 1 begun (linesOf text)
   step-refused h =
       rw same-refusal
       (stops-refused text policy before at n r inside (sym (ap isAccepted same-refusal) ∙ h))
 
-  pub step-fits : isAccepted refusal ≡ true → Fits policy line
+  pub step-fits : isAccepted refusal ≡ true → Fits policy (read .line)
   step-fits h =
-      let f = fine n draft line (sym (ap isAccepted (is-refusal ∙ sym (part-same n draft line))) ∙ h) in
+      let f = fine n draft (read .line) (sym (ap isAccepted (is-refusal ∙ sym (part-same n draft (read .line)))) ∙ h) in
       record {
         in-range = f .passing .ranged;
-        next-id = id-next before policy line (f .passing .ordered);
+        next-id = id-next before policy (read .line) (f .passing .ordered);
         few-segments = r .kept .counts .segments;
         few-partitions = r .kept .counts .partitions;
         few-slots = r .kept .counts .slots;
-        mode = mode-small line (rw is-line (line-lettered (fieldsOf (drop at (take end text)))));
+        mode = mode-small (read .line) (rw same-line (at-lettered text policy before at n r));
       }
 
-  pub step-more : (next : Policy) (key : Key) → isAccepted refusal ≡ true → next ≡ added policy line → key ≡ keyOf line → Reached text next key (end + 1) (n + 1)
+  pub step-more :
+      (next : Policy) (key : Key) → isAccepted refusal ≡ true → next ≡ added policy (read .line)
+      → key ≡ keyOf (read .line) → Reached text next key (read .next .at) (read .next .line)
   step-more next key h p k =
-      rw (p, k, same-line, is-end)
+      rw (p, k, same-line, is-read)
       (reached-more text policy before at n r inside (sym (ap isAccepted same-refusal) ∙ h))
+
+  -- the place is left past the line, so the text grows shorter
+  pub step-shorter : isAccepted refusal ≡ true → at < read .next .at
+  step-shorter h = rw is-read (moves-on text policy before at n r (sym (ap isAccepted same-refusal) ∙ h))

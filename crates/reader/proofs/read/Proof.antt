@@ -1,6 +1,4 @@
 -- A text over the limit is refused by 1; any other is read line by line.
-use mathlib.Core.Path.{sym, _∙_}
-use native.Mathlib.Omega.{arith}
 use borrow.Author.Needs.{needs}
 use borrow.Author.Tests.{lt-ltb, le-ltb}
 use Rattle.policy.specs.Read.{readOf}
