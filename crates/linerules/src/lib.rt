@@ -1,14 +1,13 @@
-// The rules for one line of a policy text, refusals 3, 4 and 5 of document 01, and what a line adds to the record.
-mod adding;
+// The rules for one line of a policy text, refusals 3, 4 and 5 of document 01.
 mod arrays;
+mod blank;
 mod clash;
 mod line;
 mod order;
 mod range;
 mod refusal;
 
-pub use adding::added;
-pub use adding::zeros;
+pub use blank::zeros;
 pub use line::line_refusal;
 pub use order::key_of;
 pub use refusal::is_accepted;

@@ -7,7 +7,6 @@ ghost use Rattle.policy.specs.Limits.{single};
 ghost use Rattle.policy.specs.Record.{zeros, viewOf};
 ghost use Rattle.policy.specs.Draft.{begun};
 ghost use Rattle.policy.specs.Read.{answer, wholeRefusal, readLines};
-use linerules::added;
 use linerules::is_accepted;
 use linerules::key_of;
 use linerules::line_refusal;
@@ -17,6 +16,7 @@ use policy::Policy;
 use policy::Reading;
 use policy::Refusal;
 use text::Cursor;
+use text::Line;
 use wholerules::whole_refusal;
 
 // A refusal comes with the record of zeros.
@@ -31,6 +31,7 @@ pub(crate) fn refused(refusal: Refusal) -> Reading
 
 // The answer once all lines are read into the record.
 fn judged(policy: Policy) -> Reading
+    requires { ⌜ (policy .segments ≤ 32) × (policy .partitions ≤ 8) ⌝ }
     ensures { λ r. ⌜ r ≡ answer (wholeRefusal (viewOf policy)) policy ⌝ }
 {
     let refusal = whole_refusal(policy);
@@ -40,7 +41,8 @@ fn judged(policy: Policy) -> Reading
     refused(refusal)
 }
 
-// The answer for a text that is not too long.
+// The answer for a text that is not too long. What a line adds is stored in the loop itself: a record that is handed by
+// value to a function and back is copied for each line.
 pub(crate) fn read_lines(text: &[u8]) -> Reading
     requires { ⌜ length (now text) ≤ 16384 ⌝ }
     ensures { λ r. ⌜ r ≡ readLines single 1 begun (linesOf (now (text .entry))) ⌝ }
@@ -71,7 +73,35 @@ pub(crate) fn read_lines(text: &[u8]) -> Reading
         if !is_accepted(refusal) {
             return refused(refusal);
         }
-        policy = added(policy, line);
+        match line {
+            Line::Bad => {}
+            Line::Segment { id, base, size } => {
+                policy.base[id as usize] = base as u16;
+                policy.size[id as usize] = size as u16;
+                policy.segments = (id + 1) as u8;
+            }
+            Line::Partition { id, code, save } => {
+                policy.code[id as usize] = code as u8;
+                policy.save[id as usize] = save as u8;
+                policy.partitions = (id + 1) as u8;
+            }
+            Line::Right {
+                partition,
+                segment,
+                mode,
+            } => {
+                policy.rights[(32 * partition + segment) as usize] = mode as u8;
+            }
+            Line::Flow { from, to } => {
+                policy.flows[(32 * from + to) as usize] = 1;
+            }
+            Line::Slot { partition, ticks } => {
+                let slot = policy.slots;
+                policy.owner[slot as usize] = partition as u8;
+                policy.ticks[slot as usize] = ticks as u16;
+                policy.slots = slot + 1;
+            }
+        }
         before = key_of(line);
         c = read.next;
     }

@@ -1,3 +1,4 @@
 pub mod Loops
 pub mod Zeros
+pub mod Past
 pub mod Shape

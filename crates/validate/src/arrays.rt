@@ -2,7 +2,6 @@
 ghost use mathlib.Core.Path.{_≡_};
 ghost use lib.ListN.{drop, getD};
 ghost use Rattle.policy.specs.Sound.{allZero};
-use wholerules::byte_at;
 
 pub(crate) fn half_at(a: &[u16], i: usize) -> u16
     ensures { λ r. ⌜ r ≡ getD (now (a .entry)) i 0 ⌝ }
@@ -10,29 +9,31 @@ pub(crate) fn half_at(a: &[u16], i: usize) -> u16
     if i < a.len() { a[i] } else { 0 }
 }
 
-// Whether the entries from an index on are 0; of bytes, and of halves.
-pub(crate) fn bytes_unused(a: &[u8], from: u8) -> bool
+// Whether the entries from an index on are 0; of bytes, and of halves. No early exit: the compiler then looks at many at once.
+pub(crate) fn bytes_unused(a: &[u8], from: usize) -> bool
     ensures { λ r. ⌜ r ≡ allZero (drop from (now (a .entry))) ⌝ }
 {
-    let mut i = from as usize;
+    let mut i = from;
+    let mut used = false;
     while i < a.len() {
-        if byte_at(a, i) != 0 {
-            return false;
+        if a[i] != 0 {
+            used = true;
         }
         i += 1;
     }
-    true
+    !used
 }
 
-pub(crate) fn halves_unused(a: &[u16], from: u8) -> bool
+pub(crate) fn halves_unused(a: &[u16], from: usize) -> bool
     ensures { λ r. ⌜ r ≡ allZero (drop from (now (a .entry))) ⌝ }
 {
-    let mut i = from as usize;
+    let mut i = from;
+    let mut used = false;
     while i < a.len() {
-        if half_at(a, i) != 0 {
-            return false;
+        if a[i] != 0 {
+            used = true;
         }
         i += 1;
     }
-    true
+    !used
 }

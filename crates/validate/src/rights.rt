@@ -1,13 +1,15 @@
-// Rules 4 and 5 for the rights and the flow lines of a record. Most bytes are 0, and say nothing.
+// Rules 4 and 5 for the rights and the flow lines of a record. Most bytes are 0, and say nothing; those past the counts must be.
+ghost use Prim.Native.Nat.{_≤_};
 ghost use mathlib.Core.Path.{_≡_};
 ghost use mathlib.Core.List.{[]};
 ghost use lib.Dec.{eqb};
-ghost use lib.ListN.{getD};
+ghost use lib.ListN.{getD, length};
 ghost use Rattle.policy.specs.Below.{eachBelow};
 ghost use Rattle.policy.specs.Clash.{isSave};
 ghost use Rattle.policy.specs.Limits.{single};
 ghost use Rattle.policy.specs.Sound.{goodFlow, goodRight};
 ghost use Rattle.validate.specs.Parts.{namesOf};
+use crate::arrays::bytes_unused;
 use wholerules::byte_at;
 
 // Whether s is the save segment of q.
@@ -61,20 +63,22 @@ pub(crate) fn rights_good<'a>(
     segments: u8,
     partitions: u8,
 ) -> bool
+    requires { ⌜ (partitions ≤ 8) × (length (now rights) ≡ 256) ⌝ }
     ensures { λ r.
         ⌜
         r ≡ eachBelow 256
         (λ k. goodRight single (namesOf segments partitions (now (save .entry))) k (getD (now (rights .entry)) k 0))
         ⌝ }
 {
+    let used = 32 * (partitions as usize);
     let mut k = 0;
-    while k < 256 {
+    while k < used {
         if !right_good(save, rights, segments, partitions, k) {
             return false;
         }
         k += 1;
     }
-    true
+    bytes_unused(rights, used)
 }
 
 // Whether a flow line may give the byte at k.
@@ -98,14 +102,16 @@ fn flow_good(flows: &[u8], segments: u8, k: usize) -> bool
 }
 
 pub(crate) fn flows_good(flows: &[u8], segments: u8) -> bool
+    requires { ⌜ (segments ≤ 32) × (length (now flows) ≡ 1024) ⌝ }
     ensures { λ r. ⌜ r ≡ eachBelow 1024 (λ k. goodFlow single (namesOf segments 0 []) k (getD (now (flows .entry)) k 0)) ⌝ }
 {
+    let used = 32 * (segments as usize);
     let mut k = 0;
-    while k < 1024 {
+    while k < used {
         if !flow_good(flows, segments, k) {
             return false;
         }
         k += 1;
     }
-    true
+    bytes_unused(flows, used)
 }

@@ -1,6 +1,8 @@
 // The test of a whole record.
+ghost use Prim.Native.Nat.{_≤_};
 ghost use mathlib.Core.Path.{_≡_};
 ghost use mathlib.Core.List.{[]};
+ghost use lib.ListN.{length};
 ghost use Rattle.policy.specs.Limits.{single};
 ghost use Rattle.policy.specs.Read.{wholeRefusal};
 ghost use Rattle.policy.specs.Record.{viewOf};
@@ -54,22 +56,22 @@ fn unused_zero<'a>(
         (now (save .entry)) (now (owner .entry)) (now (ticks .entry)) [] [])
         ⌝ }
 {
-    if !halves_unused(base, counts.segments) {
+    if !halves_unused(base, counts.segments as usize) {
         return false;
     }
-    if !halves_unused(size, counts.segments) {
+    if !halves_unused(size, counts.segments as usize) {
         return false;
     }
-    if !bytes_unused(code, counts.partitions) {
+    if !bytes_unused(code, counts.partitions as usize) {
         return false;
     }
-    if !bytes_unused(save, counts.partitions) {
+    if !bytes_unused(save, counts.partitions as usize) {
         return false;
     }
-    if !bytes_unused(owner, counts.slots) {
+    if !bytes_unused(owner, counts.slots as usize) {
         return false;
     }
-    halves_unused(ticks, counts.slots)
+    halves_unused(ticks, counts.slots as usize)
 }
 
 // Whether each entry stands where a line that rules 4 and 5 let pass would put it.
@@ -84,6 +86,8 @@ fn lines_hold<'a>(
     rights: &'a [u8],
     flows: &'a [u8],
 ) -> bool
+    requires { ⌜ (counts .segments ≤ 32) × (counts .partitions ≤ 8) ⌝ }
+    requires { ⌜ (length (now rights) ≡ 256) × (length (now flows) ≡ 1024) ⌝ }
     ensures { λ r.
         ⌜
         r ≡ linesHold single
@@ -130,6 +134,7 @@ fn whole_holds<'a>(
     rights: &'a [u8],
     flows: &'a [u8],
 ) -> bool
+    requires { ⌜ (counts .segments ≤ 32) × (counts .partitions ≤ 8) ⌝ }
     ensures { λ r.
         ⌜
         r ≡ isAccepted
@@ -161,6 +166,7 @@ fn lent_passes<'a>(
     rights: &'a [u8],
     flows: &'a [u8],
 ) -> bool
+    requires { ⌜ (length (now rights) ≡ 256) × (length (now flows) ≡ 1024) ⌝ }
     ensures { λ r.
         ⌜
         r ≡ entriesSound

@@ -1,3 +1,6 @@
 pub mod Loops
 pub mod Exchange
+pub mod Masks
+pub mod Gather
+pub mod Filled
 pub mod Sources

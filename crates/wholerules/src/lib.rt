@@ -2,6 +2,7 @@
 // sound or not.
 mod access;
 mod flows;
+mod masks;
 mod rules;
 
 pub use access::byte_at;

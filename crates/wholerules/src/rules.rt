@@ -1,4 +1,5 @@
 // Rules 6 and 7, and the three in their order, over lent arrays and over the record.
+ghost use Prim.Native.Nat.{_≤_};
 ghost use mathlib.Core.Path.{_≡_};
 ghost use mathlib.Core.List.{[]};
 ghost use Rattle.policy.specs.Read.{wholeRefusal};
@@ -55,6 +56,7 @@ pub fn lent_refusal<'a>(
     rights: &'a [u8],
     flows: &'a [u8],
 ) -> Refusal
+    requires { ⌜ (segments ≤ 32) × (partitions ≤ 8) ⌝ }
     ensures { λ r.
         ⌜
         r ≡ wholeRefusal
@@ -75,6 +77,7 @@ pub fn lent_refusal<'a>(
 }
 
 pub fn whole_refusal(policy: Policy) -> Refusal
+    requires { ⌜ (policy .segments ≤ 32) × (policy .partitions ≤ 8) ⌝ }
     ensures { λ r. ⌜ r ≡ wholeRefusal (viewOf policy) ⌝ }
 {
     lent_refusal(

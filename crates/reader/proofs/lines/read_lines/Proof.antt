@@ -1,11 +1,16 @@
 -- Before each line, what is left to read gives the answer of the whole text (Reached); the text grows shorter with each
--- line.
-use Prim.Native.Nat.{_-_}
-use mathlib.Core.Path.{sym, _∙_}
+-- line. A line that no rule refuses has its place in the record, and what is stored there is what the line adds.
+use Prim.Native.Nat.{_-_, _<_}
+use mathlib.Core.Path.{_≡_, sym, _∙_, ap}
+use mathlib.Core.Logic.{⊎-elim}
 use native.Mathlib.Omega.{arith}
 use borrow.Author.Needs.{needs}
 use borrow.Author.Tests.{not-true, not-false}
 use lib.ListN.{length}
+use Rattle.policy.specs.Draft.{added}
+use Rattle.policy.specs.Order.{keyOf}
+use Rattle.linerules.specs.Parts.{Fits}
+use Rattle.linerules.proofs.Laws.Fits.{segment-fits, partition-fits, right-fits, flow-fits, slot-fits}
 use Rattle.reader.proofs.Laws.Run.{Reached, reached-first, stops-end}
 use Rattle.reader.proofs.Laws.Step.{step-refused, step-fits, step-more, step-shorter}
 use Rattle.reader.proofs.lines.read_lines.Statement.{statement}
@@ -46,13 +51,179 @@ returns c =
     _ _ (line .line-from .ensures) (ruled .line-refusal .ensures)
     (sym (c .before .before .is-accepted .ensures) ∙ not-true _ (c .before .if2 .taken))
 
-added-requires : tie.Need-added-requires Inv-loop μ-loop
-added-requires c κs =
-    let ruled = c .before .before in
+-- A line that no rule refuses fits the record.
+fits : (e : tie.Else2 Inv-loop μ-loop) →
+    Fits (e .before .before .before .before .before .before .before .before .before .before .before .loop .policy)
+    (e .before .before .before .before .before .before .before .before .line-from .result .line)
+fits e =
+    let ruled = e .before .before in
     let line = ruled .before .before .before .before .before .before in
     step-fits _ _ _ _ _ (line .before .before .before .loop .inv) (line .before .if1 .taken)
     _ _ (line .line-from .ensures) (ruled .line-refusal .ensures)
-    (sym (c .before .is-accepted .ensures) ∙ not-false _ (c .if2 .left))
+    (sym (e .before .is-accepted .ensures) ∙ not-false _ (e .if2 .left))
+
+segment-in : (c : tie.After-known-told Inv-loop μ-loop) →
+    let g = c .before .line .given .0 in (g .0 < 32) × (g .1 .0 < 65536) × (g .1 .1 .0 < 65536)
+segment-in c = segment-fits _ _ _ _ (rw (c .before .line .given .1) at (fits (c .before .before .before)))
+
+partition-in : (c : tie.After-known-told2 Inv-loop μ-loop) →
+    let g = c .before .line2 .given .0 in (g .0 < 8) × (g .1 .0 < 32) × (g .1 .1 .0 < 32)
+partition-in c = partition-fits _ _ _ _ (rw (c .before .line2 .given .1) at (fits (c .before .before .before)))
+
+right-in : (c : tie.After-known-told3 Inv-loop μ-loop) →
+    let g = c .before .line3 .given .0 in (g .0 < 8) × (g .1 .0 < 32) × (g .1 .1 .0 < 4)
+right-in c = right-fits _ _ _ _ (rw (c .before .line3 .given .1) at (fits (c .before .before .before)))
+
+flow-in : (c : tie.After-known-told4 Inv-loop μ-loop) →
+    let g = c .before .line4 .given .0 in (g .0 < 32) × (g .1 .0 < 32)
+flow-in c = flow-fits _ _ _ (rw (c .before .line4 .given .1) at (fits (c .before .before .before)))
+
+slot-in : (c : tie.After-known-told5 Inv-loop μ-loop) →
+    let g = c .before .line5 .given .0 in (c .before .before .before .before .before .before .before .before .before .before .before .before .before .before .loop .policy .slots < 32) × (g .0 < 8) × (g .1 .0 < 65536)
+slot-in c = slot-fits _ _ _ (rw (c .before .line5 .given .1) at (fits (c .before .before .before)))
+
+enum-told : tie.Need-enum-told Inv-loop μ-loop
+enum-told c = search needs
+
+enum-known-line : tie.Need-enum-known-line Inv-loop μ-loop
+enum-known-line c = search needs
+
+cast-policy : tie.Need-cast-policy Inv-loop μ-loop
+cast-policy c = omega (arith, segment-in c)
+
+cast-policy-2 : tie.Need-cast-policy-2 Inv-loop μ-loop
+cast-policy-2 c = omega (arith, segment-in c)
+
+mul-policy : tie.Need-mul-policy Inv-loop μ-loop
+mul-policy c = omega (arith, segment-in c)
+
+element-write-policy : tie.Need-element-write-policy Inv-loop μ-loop
+element-write-policy c = omega (arith, segment-in c)
+
+cast-policy-3 : tie.Need-cast-policy-3 Inv-loop μ-loop
+cast-policy-3 c = omega (arith, segment-in c)
+
+cast-policy-4 : tie.Need-cast-policy-4 Inv-loop μ-loop
+cast-policy-4 c = omega (arith, segment-in c)
+
+mul-policy-2 : tie.Need-mul-policy-2 Inv-loop μ-loop
+mul-policy-2 c = omega (arith, segment-in c)
+
+element-write-policy-2 : tie.Need-element-write-policy-2 Inv-loop μ-loop
+element-write-policy-2 c = omega (arith, segment-in c)
+
+add-policy : tie.Need-add-policy Inv-loop μ-loop
+add-policy c = omega (arith, segment-in c)
+
+cast-policy-5 : tie.Need-cast-policy-5 Inv-loop μ-loop
+cast-policy-5 c = omega (arith, segment-in c)
+
+enum-known-line-2 : tie.Need-enum-known-line-2 Inv-loop μ-loop
+enum-known-line-2 c = search needs
+
+cast-policy-6 : tie.Need-cast-policy-6 Inv-loop μ-loop
+cast-policy-6 c = omega (arith, partition-in c)
+
+cast-policy-7 : tie.Need-cast-policy-7 Inv-loop μ-loop
+cast-policy-7 c = omega (arith, partition-in c)
+
+element-write-policy-3 : tie.Need-element-write-policy-3 Inv-loop μ-loop
+element-write-policy-3 c = omega (arith, partition-in c)
+
+cast-policy-8 : tie.Need-cast-policy-8 Inv-loop μ-loop
+cast-policy-8 c = omega (arith, partition-in c)
+
+cast-policy-9 : tie.Need-cast-policy-9 Inv-loop μ-loop
+cast-policy-9 c = omega (arith, partition-in c)
+
+element-write-policy-4 : tie.Need-element-write-policy-4 Inv-loop μ-loop
+element-write-policy-4 c = omega (arith, partition-in c)
+
+add-policy-2 : tie.Need-add-policy-2 Inv-loop μ-loop
+add-policy-2 c = omega (arith, partition-in c)
+
+cast-policy-10 : tie.Need-cast-policy-10 Inv-loop μ-loop
+cast-policy-10 c = omega (arith, partition-in c)
+
+enum-known-line-3 : tie.Need-enum-known-line-3 Inv-loop μ-loop
+enum-known-line-3 c = search needs
+
+cast-policy-11 : tie.Need-cast-policy-11 Inv-loop μ-loop
+cast-policy-11 c = omega (arith, right-in c)
+
+mul-policy-3 : tie.Need-mul-policy-3 Inv-loop μ-loop
+mul-policy-3 c = omega (arith, right-in c)
+
+add-policy-3 : tie.Need-add-policy-3 Inv-loop μ-loop
+add-policy-3 c = omega (arith, right-in c)
+
+cast-policy-12 : tie.Need-cast-policy-12 Inv-loop μ-loop
+cast-policy-12 c = omega (arith, right-in c)
+
+element-write-policy-5 : tie.Need-element-write-policy-5 Inv-loop μ-loop
+element-write-policy-5 c = omega (arith, right-in c)
+
+enum-known-line-4 : tie.Need-enum-known-line-4 Inv-loop μ-loop
+enum-known-line-4 c = search needs
+
+mul-policy-4 : tie.Need-mul-policy-4 Inv-loop μ-loop
+mul-policy-4 c = omega (arith, flow-in c)
+
+add-policy-4 : tie.Need-add-policy-4 Inv-loop μ-loop
+add-policy-4 c = omega (arith, flow-in c)
+
+cast-policy-13 : tie.Need-cast-policy-13 Inv-loop μ-loop
+cast-policy-13 c = omega (arith, flow-in c)
+
+element-write-policy-6 : tie.Need-element-write-policy-6 Inv-loop μ-loop
+element-write-policy-6 c = omega (arith, flow-in c)
+
+enum-known-line-5 : tie.Need-enum-known-line-5 Inv-loop μ-loop
+enum-known-line-5 c = search needs
+
+cast-policy-14 : tie.Need-cast-policy-14 Inv-loop μ-loop
+cast-policy-14 c = omega (arith, slot-in c)
+
+cast-policy-15 : tie.Need-cast-policy-15 Inv-loop μ-loop
+cast-policy-15 c = omega (arith, slot-in c)
+
+element-write-policy-7 : tie.Need-element-write-policy-7 Inv-loop μ-loop
+element-write-policy-7 c = omega (arith, slot-in c)
+
+cast-policy-16 : tie.Need-cast-policy-16 Inv-loop μ-loop
+cast-policy-16 c = omega (arith, slot-in c)
+
+cast-policy-17 : tie.Need-cast-policy-17 Inv-loop μ-loop
+cast-policy-17 c = omega (arith, slot-in c)
+
+mul-policy-5 : tie.Need-mul-policy-5 Inv-loop μ-loop
+mul-policy-5 c = omega (arith, slot-in c)
+
+element-write-policy-8 : tie.Need-element-write-policy-8 Inv-loop μ-loop
+element-write-policy-8 c = omega (arith, slot-in c)
+
+add-policy-5 : tie.Need-add-policy-5 Inv-loop μ-loop
+add-policy-5 c = omega (arith, slot-in c)
+
+-- What the arms store is what the line adds, and the line stays what it was.
+stored : (c : tie.At-match-came Inv-loop μ-loop) → c .match .policy ≡ added (c .before .before .before .before .before .before .before .before .before .before .before .before .loop .policy) (c .before .before .before .before .before .before .before .before .before .line-from .result .line)
+unfolding added
+stored c =
+    ⊎-elim (λ a. rw (a .1 .given .1) (a .2))
+    (⊎-elim (λ a. rw (a .1 .given .1) (a .3))
+    (⊎-elim (λ a. rw (a .1 .given .1) (a .3))
+    (⊎-elim (λ a. rw (a .1 .given .1) (a .3))
+    (⊎-elim (λ a. rw (a .1 .given .1) (a .3)) (λ a. rw (a .1 .given .1) (a .3))))))
+    (c .match .came)
+
+same-line : (c : tie.At-match-came Inv-loop μ-loop) → c .match .line ≡ c .before .before .before .before .before .before .before .before .before .line-from .result .line
+same-line c =
+    ⊎-elim (λ a. a .3)
+    (⊎-elim (λ a. a .4 ∙ sym (a .1 .given .1))
+    (⊎-elim (λ a. a .4 ∙ sym (a .1 .given .1))
+    (⊎-elim (λ a. a .4 ∙ sym (a .1 .given .1))
+    (⊎-elim (λ a. a .4 ∙ sym (a .1 .given .1)) (λ a. a .4 ∙ sym (a .1 .given .1))))))
+    (c .match .came)
 
 key-of-requires : tie.Need-key-of-requires Inv-loop μ-loop
 key-of-requires c κs = search needs
@@ -76,10 +247,12 @@ loop-again c =
     step-more _ _ _ _ _ (line .before .before .before .loop .inv) (line .before .if1 .taken)
     _ _ (line .line-from .ensures) (ruled .line-refusal .ensures)
     _ _ (sym (c .before .before .before .before .is-accepted .ensures) ∙ not-false _ (c .before .before .before .if2 .left))
-    (c .before .before .added .ensures) (c .before .key-of .ensures)
+    (stored (c .before .before)) (c .before .key-of .ensures ∙ ap keyOf (same-line (c .before .before)))
 
 judged-requires : tie.Need-judged-requires Inv-loop μ-loop
-judged-requires c κs = search needs
+judged-requires c κs =
+    let counts = c .before .before .loop .inv .kept .counts in
+    (counts .segments, counts .partitions)
 
 returns-2 : tie.Need-returns-2 Inv-loop μ-loop
 returns-2 c = c .judged .ensures ∙ stops-end _ _ _ _ _ (c .before .before .before .loop .inv) (c .before .if1 .left)
@@ -97,7 +270,47 @@ read-lines-spec =
     is-accepted-requires
     refused-requires
     returns
-    added-requires
+    enum-told
+    enum-known-line
+    cast-policy
+    cast-policy-2
+    mul-policy
+    element-write-policy
+    cast-policy-3
+    cast-policy-4
+    mul-policy-2
+    element-write-policy-2
+    add-policy
+    cast-policy-5
+    enum-known-line-2
+    cast-policy-6
+    cast-policy-7
+    element-write-policy-3
+    cast-policy-8
+    cast-policy-9
+    element-write-policy-4
+    add-policy-2
+    cast-policy-10
+    enum-known-line-3
+    cast-policy-11
+    mul-policy-3
+    add-policy-3
+    cast-policy-12
+    element-write-policy-5
+    enum-known-line-4
+    mul-policy-4
+    add-policy-4
+    cast-policy-13
+    element-write-policy-6
+    enum-known-line-5
+    cast-policy-14
+    cast-policy-15
+    element-write-policy-7
+    cast-policy-16
+    cast-policy-17
+    mul-policy-5
+    element-write-policy-8
+    add-policy-5
     key-of-requires
     loop-less
     loop-again

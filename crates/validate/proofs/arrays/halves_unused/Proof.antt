@@ -1,5 +1,6 @@
--- The loop stops at the first number that is not 0; the invariant: whether all are 0 rests with what is left.
+-- The invariant: all are 0 where none that was read is used and what is left is 0.
 use Prim.Native.Nat.{_-_}
+use mathlib.Core.Logic.{⊎-elim}
 use mathlib.Core.Path.{refl}
 use borrow.Author.Needs.{needs}
 use lib.ListN.{length}
@@ -8,29 +9,19 @@ use Rattle.validate.proofs.arrays.halves_unused.Statement.{statement}
 use Rattle.validate.proofs.arrays.halves_unused.Tie as tie
 
 abbrev Inv-loop : tie.InvT-loop
-Inv-loop a from i₀ i = ZeroTo a from i
+Inv-loop a from i₀ used₀ i used = ZeroTo a from i used
 
 abbrev μ-loop : tie.MeasureT-loop
-μ-loop a from i₀ i = length a - i
+μ-loop a from i₀ used₀ i used = length a - i
 
 loop-holds : tie.Need-loop-holds Inv-loop μ-loop
 loop-holds c = refl
 
-half-at-requires : tie.Need-half-at-requires Inv-loop μ-loop
-half-at-requires c κs = search needs
+mul-if1 : tie.Need-mul-if1 Inv-loop μ-loop
+mul-if1 c = search needs
 
-returns : tie.Need-returns Inv-loop μ-loop
-returns c =
-    let a = c .before .before .before .before .before .args in
-    zero-found
-    (a .a .now)
-    (a .from)
-    (c .before .before .before .loop .i)
-    (c .before .half-at .result)
-    (c .before .before .before .loop .inv)
-    (c .before .before .loop-test .taken)
-    (c .before .half-at .ensures)
-    (c .if1 .taken)
+shared-slice-read-if1 : tie.Need-shared-slice-read-if1 Inv-loop μ-loop
+shared-slice-read-if1 c = search needs
 
 add-i : tie.Need-add-i Inv-loop μ-loop
 add-i c = search needs
@@ -40,23 +31,20 @@ loop-less c = search needs
 
 loop-again : tie.Need-loop-again Inv-loop μ-loop
 loop-again c =
-    let a = c .before .before .before .before .before .args in
-    zero-more
-    (a .a .now)
-    (a .from)
-    (c .before .before .before .loop .i)
-    (c .before .half-at .result)
-    (c .before .before .before .loop .inv)
-    (c .before .before .loop-test .taken)
-    (c .before .half-at .ensures)
-    (c .if1 .left)
+    let l = c .before .before .before .loop in
+    let a = c .before .before .before .before .args in
+    let t = c .before .before .loop-test .taken in
+    ⊎-elim
+    (λ w. rw (w .1) (zero-found (a .a .now) (a .from) (l .i) (l .used) (l .inv) t (w .0 .taken)))
+    (λ w. rw (w .1) (zero-more (a .a .now) (a .from) (l .i) (l .used) (l .inv) t (w .0 .left)))
+    (c .if1 .came)
 
-returns-2 : tie.Need-returns-2 Inv-loop μ-loop
-returns-2 c =
-    let a = c .before .before .before .args in
-    zero-done (a .a .now) (a .from) (c .before .loop .i) (c .before .loop .inv) (c .loop-test .left)
+returns : tie.Need-returns Inv-loop μ-loop
+returns c =
+    let a = c .before .before .args in
+    zero-done (a .a .now) (a .from) (c .before .loop .i) (c .before .loop .used) (c .before .loop .inv) (c .loop-test .left)
 
 pub halves-unused-spec : {M : Type 1} → statement M
 halves-unused-spec =
     tie.close
-    (tie.spec Inv-loop μ-loop loop-holds half-at-requires returns add-i loop-less loop-again returns-2)
+    (tie.spec Inv-loop μ-loop loop-holds mul-if1 shared-slice-read-if1 add-i loop-less loop-again returns)

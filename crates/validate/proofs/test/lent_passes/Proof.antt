@@ -2,6 +2,7 @@
 use mathlib.Core.Path.{sym, _∙_}
 use borrow.Author.Needs.{needs}
 use borrow.Author.Tests.{not-true, not-false}
+use Rattle.policy.proofs.Entries.{counts}
 use Rattle.policy.specs.Read.{wholeRefusal}
 use Rattle.policy.specs.Sound.{countsFit, unusedZero}
 use Rattle.policy.specs.Whole.{incomplete, codeUnreadable, flowMissing}
@@ -27,7 +28,10 @@ returns-2 c =
     )
 
 lines-hold-requires : tie.Need-lines-hold-requires
-lines-hold-requires c κs = search needs
+lines-hold-requires c κs =
+    let fit = counts _ (sym (c .before .before .before .counts-fit .ensures) ∙ not-false _ (c .before .before .if1 .left)) in
+    let start = c .before .before .before .before .before .before .before .before .before .before .before .before in
+    ((fit .segments, fit .partitions), start .pre)
 
 returns-3 : tie.Need-returns-3
 unfolding countsFit unusedZero wholeRefusal incomplete codeUnreadable flowMissing
@@ -39,7 +43,9 @@ returns-3 c =
     )
 
 whole-holds-requires : tie.Need-whole-holds-requires
-whole-holds-requires c κs = search needs
+whole-holds-requires c κs =
+    let n = counts _ (sym (c .before .before .before .before .before .counts-fit .ensures) ∙ not-false _ (c .before .before .before .before .if1 .left)) in
+    (n .segments, n .partitions)
 
 returns-4 : tie.Need-returns-4
 unfolding countsFit unusedZero wholeRefusal incomplete codeUnreadable flowMissing

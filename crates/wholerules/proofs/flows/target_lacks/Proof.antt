@@ -1,19 +1,33 @@
--- The loop stops at the first partition that lacks a flow line into t; the invariant: none before p does.
+-- The loop stops at the first partition that writes t and reads past the sources; the invariant: none before p does.
 use Prim.Native.Nat.{_-_}
+use mathlib.Core.List.{[]}
+use native.Mathlib.Omega.{arith}
 use borrow.Author.Needs.{needs}
-use Rattle.wholerules.specs.Parts.{reachOf, partitionLacks}
+use lib.ListN.{getD}
+use Rattle.wholerules.specs.Masks.{maskLacks}
+use Rattle.wholerules.specs.Parts.{reachOf}
 use Rattle.wholerules.proofs.Laws.Loops.{Searched, search-none, search-found, search-more, search-done}
 use Rattle.wholerules.proofs.flows.target_lacks.Statement.{statement}
 use Rattle.wholerules.proofs.flows.target_lacks.Tie as tie
 
 abbrev Inv-loop : tie.InvT-loop
-Inv-loop save rights flows segments partitions t p₀ p = Searched partitions (partitionLacks (reachOf save rights flows) segments t) p
+Inv-loop save rights sources partitions t masks p₀ p =
+    Searched partitions (λ q. maskLacks (reachOf save rights []) (getD masks q 0) sources t q) p
 
 abbrev μ-loop : tie.MeasureT-loop
-μ-loop save rights flows segments partitions t p₀ p = partitions - p
+μ-loop save rights sources partitions t masks p₀ p = partitions - p
 
 loop-holds : tie.Need-loop-holds Inv-loop μ-loop
 loop-holds c = search-none _ _
+
+cast-partition-lacks : tie.Need-cast-partition-lacks Inv-loop μ-loop
+cast-partition-lacks c = search needs
+
+mul-partition-lacks : tie.Need-mul-partition-lacks Inv-loop μ-loop
+mul-partition-lacks c = search needs
+
+array-read-partition-lacks : tie.Need-array-read-partition-lacks Inv-loop μ-loop
+array-read-partition-lacks c = search needs
 
 partition-lacks-requires : tie.Need-partition-lacks-requires Inv-loop μ-loop
 partition-lacks-requires c κs = search needs
@@ -42,4 +56,16 @@ returns-2 c = search-done _ _ _ (c .before .loop .inv) (c .loop-test .left)
 pub target-lacks-spec : {M : Type 1} → statement M
 target-lacks-spec =
     tie.close
-    (tie.spec Inv-loop μ-loop loop-holds partition-lacks-requires returns add-p loop-less loop-again returns-2)
+    (tie.spec
+    Inv-loop
+    μ-loop
+    loop-holds
+    cast-partition-lacks
+    mul-partition-lacks
+    array-read-partition-lacks
+    partition-lacks-requires
+    returns
+    add-p
+    loop-less
+    loop-again
+    returns-2)
