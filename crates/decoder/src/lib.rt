@@ -1,4 +1,4 @@
-// Four bytes of code to an instruction: the opcode's registers are tested against a table, then the opcode is matched.
+// Four bytes of code to an instruction: the opcode's registers are tested against a table, then its kind is taken.
 ghost use mathlib.Core.Path.{_≡_};
 ghost use Prim.Native.Nat.{_+_, _*_};
 ghost use lib.ListN.{getD};
@@ -16,18 +16,21 @@ fn number(b: u8, c: u8) -> u16
 fn kind(op: u8, a: u8, b: u8, c: u8) -> Decoded
     ensures { λ r. ⌜ r ≡ kindOf op a b c ⌝ }
 {
-    let n = number(b, c);
+    let n = number(b, c) as u32;
+    let ra = a as u32;
+    let rb = b as u32;
+    let rc = c as u32;
     match op {
         0 => Decoded::Runs(Instr::Halt),
-        1 => Decoded::Runs(Instr::Set(a, n)),
-        2 => Decoded::Runs(Instr::Add(a, b, c)),
-        3 => Decoded::Runs(Instr::Sub(a, b, c)),
-        4 => Decoded::Runs(Instr::And(a, b, c)),
-        5 => Decoded::Runs(Instr::Xor(a, b, c)),
-        6 => Decoded::Runs(Instr::Shift(a, b, c)),
-        7 => Decoded::Runs(Instr::Load(a, b, c)),
-        8 => Decoded::Runs(Instr::Store(a, b, c)),
-        9 => Decoded::Runs(Instr::Jump(a, n)),
+        1 => Decoded::Runs(Instr::Set(ra, n)),
+        2 => Decoded::Runs(Instr::Add(ra, rb, rc)),
+        3 => Decoded::Runs(Instr::Sub(ra, rb, rc)),
+        4 => Decoded::Runs(Instr::And(ra, rb, rc)),
+        5 => Decoded::Runs(Instr::Xor(ra, rb, rc)),
+        6 => Decoded::Runs(Instr::Shift(ra, rb, rc)),
+        7 => Decoded::Runs(Instr::Load(ra, rb, rc)),
+        8 => Decoded::Runs(Instr::Store(ra, rb, rc)),
+        9 => Decoded::Runs(Instr::Jump(ra, n)),
         10 => Decoded::Runs(Instr::Wait),
         11 => Decoded::Runs(Instr::Listen(a, n)),
         12 => Decoded::Runs(Instr::Back),
@@ -67,14 +70,36 @@ fn operands_fit(mask: u8, a: u8, b: u8, c: u8) -> bool
     false
 }
 
-// The instruction of four bytes; a bad opcode or register is another answer.
-pub fn decode(op: u8, a: u8, b: u8, c: u8) -> Decoded
+fn tested(op: u8, a: u8, b: u8, c: u8) -> Decoded
     ensures { λ r. ⌜ r ≡ decodeOf op a b c ⌝ }
 {
     if operands_fit(mask_of(op), a, b, c) {
         kind(op, a, b, c)
     } else {
         Decoded::Bad
+    }
+}
+
+// The instruction of four bytes; a bad opcode or register is another answer. Each opcode is passed on as a constant:
+// indexed by it, the table folds away in the compiled code, and so does the second match.
+pub fn decode(op: u8, a: u8, b: u8, c: u8) -> Decoded
+    ensures { λ r. ⌜ r ≡ decodeOf op a b c ⌝ }
+{
+    match op {
+        0 => tested(0, a, b, c),
+        1 => tested(1, a, b, c),
+        2 => tested(2, a, b, c),
+        3 => tested(3, a, b, c),
+        4 => tested(4, a, b, c),
+        5 => tested(5, a, b, c),
+        6 => tested(6, a, b, c),
+        7 => tested(7, a, b, c),
+        8 => tested(8, a, b, c),
+        9 => tested(9, a, b, c),
+        10 => tested(10, a, b, c),
+        11 => tested(11, a, b, c),
+        12 => tested(12, a, b, c),
+        13..=255 => Decoded::Bad,
     }
 }
 

@@ -1,2 +1,4 @@
 pub mod Saves
+pub mod Ticks
+pub mod Stretch
 pub mod Reached

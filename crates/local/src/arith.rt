@@ -23,7 +23,7 @@ fn moved(x: u32, y: u32) -> u32
     x >> (y % 32)
 }
 
-pub fn add(s: &mut [u8], a: u8, b: u8, c: u8)
+pub fn add(s: &mut [u8], a: u32, b: u32, c: u32)
     ensures { λ _. ⌜ now (s .exit) ≡ adds (now (s .entry)) a b c ⌝ }
 {
     let x = get_register(s, b);
@@ -31,7 +31,7 @@ pub fn add(s: &mut [u8], a: u8, b: u8, c: u8)
     put_result(s, a, plus(x, y));
 }
 
-pub fn subtract(s: &mut [u8], a: u8, b: u8, c: u8)
+pub fn subtract(s: &mut [u8], a: u32, b: u32, c: u32)
     ensures { λ _. ⌜ now (s .exit) ≡ subtracts (now (s .entry)) a b c ⌝ }
 {
     let x = get_register(s, b);
@@ -39,7 +39,7 @@ pub fn subtract(s: &mut [u8], a: u8, b: u8, c: u8)
     put_result(s, a, minus(x, y));
 }
 
-pub fn and(s: &mut [u8], a: u8, b: u8, c: u8)
+pub fn and(s: &mut [u8], a: u32, b: u32, c: u32)
     ensures { λ _. ⌜ now (s .exit) ≡ ands (now (s .entry)) a b c ⌝ }
 {
     let x = get_register(s, b);
@@ -47,7 +47,7 @@ pub fn and(s: &mut [u8], a: u8, b: u8, c: u8)
     put_result(s, a, x & y);
 }
 
-pub fn xor(s: &mut [u8], a: u8, b: u8, c: u8)
+pub fn xor(s: &mut [u8], a: u32, b: u32, c: u32)
     ensures { λ _. ⌜ now (s .exit) ≡ xors (now (s .entry)) a b c ⌝ }
 {
     let x = get_register(s, b);
@@ -55,7 +55,7 @@ pub fn xor(s: &mut [u8], a: u8, b: u8, c: u8)
     put_result(s, a, x ^ y);
 }
 
-pub fn shift(s: &mut [u8], a: u8, b: u8, c: u8)
+pub fn shift(s: &mut [u8], a: u32, b: u32, c: u32)
     ensures { λ _. ⌜ now (s .exit) ≡ shifts (now (s .entry)) a b c ⌝ }
 {
     let x = get_register(s, b);

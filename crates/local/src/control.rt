@@ -25,19 +25,19 @@ pub fn halt(s: &mut [u8])
     put(s, STATE, HALTED);
 }
 
-pub fn set_register(s: &mut [u8], a: u8, n: u16)
+pub fn set_register(s: &mut [u8], a: u32, n: u32)
     ensures { λ _. ⌜ now (s .exit) ≡ setsRegister (now (s .entry)) a n ⌝ }
 {
-    put_result(s, a, n as u32);
+    put_result(s, a, n);
 }
 
-pub fn jump(s: &mut [u8], a: u8, n: u16)
+pub fn jump(s: &mut [u8], a: u32, n: u32)
     ensures { λ _. ⌜ now (s .exit) ≡ jumps (now (s .entry)) a n ⌝ }
 {
     if get_register(s, a) == 0 {
         advance(s);
     } else {
-        put_half(s, COUNTER, n as u32);
+        put_half(s, COUNTER, n);
     }
 }
 
@@ -52,11 +52,11 @@ pub fn wait(s: &mut [u8])
     }
 }
 
-pub fn listen(s: &mut [u8], a: u8, n: u16)
+pub fn listen(s: &mut [u8], a: u8, n: u32)
     ensures { λ _. ⌜ now (s .exit) ≡ listens (now (s .entry)) a n ⌝ }
 {
     put(s, ENABLED, a);
-    put_half(s, HANDLER, n as u32);
+    put_half(s, HANDLER, n);
     advance(s);
 }
 

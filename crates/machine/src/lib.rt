@@ -1,20 +1,21 @@
 // The tick machine: its instructions, its faults and the schedule place, and in specs/ what a tick does. No code that
 // runs: the crates above prove theirs against these definitions.
 
-// The kinds of instruction, each with its operands: registers, a number, a segment.
+// The kinds of instruction, each with its operands: registers, a number, a segment. Operands of four bytes keep the
+// compiler from packing an instruction into one number; the lines that a listen enables are a byte of the save segment.
 pub enum Instr {
     Halt,
-    Set(u8, u16),
-    Add(u8, u8, u8),
-    Sub(u8, u8, u8),
-    And(u8, u8, u8),
-    Xor(u8, u8, u8),
-    Shift(u8, u8, u8),
-    Load(u8, u8, u8),
-    Store(u8, u8, u8),
-    Jump(u8, u16),
+    Set(u32, u32),
+    Add(u32, u32, u32),
+    Sub(u32, u32, u32),
+    And(u32, u32, u32),
+    Xor(u32, u32, u32),
+    Shift(u32, u32, u32),
+    Load(u32, u32, u32),
+    Store(u32, u32, u32),
+    Jump(u32, u32),
     Wait,
-    Listen(u8, u16),
+    Listen(u8, u32),
     Back,
 }
 

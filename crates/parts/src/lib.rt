@@ -31,7 +31,7 @@ fn advance(memory: &mut [u8], from: usize)
     savearea::advance(&mut memory[from..to]);
 }
 
-fn get_register(memory: &[u8], from: usize, r: u8) -> u32
+fn get_register(memory: &[u8], from: usize, r: u32) -> u32
     requires { ⌜ from + 44 ≤ length (now memory) ⌝ }
     ensures { λ x. ⌜ x ≡ register (savedAt (now (memory .entry)) from) r ⌝ }
 {
@@ -96,7 +96,7 @@ fn store_at(memory: &mut [u8], start: usize, size: usize, at: usize, b: u8)
 }
 
 // Register a takes the byte at the offset that register b has.
-pub fn load_from(memory: &mut [u8], from: usize, start: usize, size: usize, a: u8, b: u8)
+pub fn load_from(memory: &mut [u8], from: usize, start: usize, size: usize, a: u32, b: u32)
     requires { ⌜ (from + 44 ≤ length (now memory)) × (start + size ≤ length (now memory)) ⌝ }
     ensures { λ _. ⌜ now (memory .exit) ≡ withSaved (now (memory .entry)) from (loadedFrom (savedAt (now (memory .entry)) from) (part (now (memory .entry)) start size) size a b) ⌝ }
 {
@@ -118,7 +118,7 @@ fn low(x: u32) -> u8
 }
 
 // That byte takes register a. The save bytes are put first, as the definition has it; nothing is read between.
-pub fn store_to(memory: &mut [u8], from: usize, start: usize, size: usize, a: u8, b: u8)
+pub fn store_to(memory: &mut [u8], from: usize, start: usize, size: usize, a: u32, b: u32)
     requires { ⌜ (from + 44 ≤ length (now memory)) × (start + size ≤ length (now memory)) ⌝ }
     ensures { λ _. ⌜ now (memory .exit) ≡ storedTo (now (memory .entry)) from start size a b ⌝ }
 {

@@ -55,10 +55,11 @@ pub fn get_half(s: &[u8], at: u16) -> u16
     paired(byte_at(s, i), byte_at(s, i + 1))
 }
 
-pub(crate) fn get_word(s: &[u8], at: u16) -> u32
-    ensures { λ r. ⌜ r ≡ word (now (s .entry)) at ⌝ }
+// A word is named by its register, of four bytes each from 0 on.
+pub(crate) fn get_word(s: &[u8], r: u32) -> u32
+    ensures { λ x. ⌜ x ≡ word (now (s .entry)) (4 * r) ⌝ }
 {
-    let i = at as usize;
+    let i = 4 * (r as usize);
     joined(
         byte_at(s, i),
         byte_at(s, i + 1),
@@ -76,10 +77,10 @@ pub fn put_half(s: &mut [u8], at: u16, n: u32)
     put(s, i + 1, digit(n, 256));
 }
 
-pub(crate) fn put_word(s: &mut [u8], at: u16, n: u32)
-    ensures { λ _. ⌜ now (s .exit) ≡ withWord (now (s .entry)) at n ⌝ }
+pub(crate) fn put_word(s: &mut [u8], r: u32, n: u32)
+    ensures { λ _. ⌜ now (s .exit) ≡ withWord (now (s .entry)) (4 * r) n ⌝ }
 {
-    let i = at as usize;
+    let i = 4 * (r as usize);
     put(s, i, low(n));
     put(s, i + 1, digit(n, 256));
     put(s, i + 2, digit(n, 65536));

@@ -1,6 +1,4 @@
 // Where the fields of a save segment stand.
-pub const WIDTH: u16 = 4;
-
 pub const COUNTER: u16 = 32;
 
 pub const STATE: usize = 34;
@@ -17,8 +15,8 @@ pub const HANDLER: u16 = 40;
 
 pub const IN_HANDLER: usize = 42;
 
-// Register 7, which takes the line of an interrupt.
-pub const LINE: u16 = 28;
+// The register that takes the line of an interrupt.
+pub const LINE: u32 = 7;
 
 // The states.
 pub const READY: u8 = 0;

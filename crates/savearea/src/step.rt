@@ -11,24 +11,16 @@ use crate::layout::FAULTED;
 use crate::layout::IN_HANDLER;
 use crate::layout::READY;
 use crate::layout::STATE;
-use crate::layout::WIDTH;
 use machine::Fault;
 ghost use mathlib.Core.Path.{_≡_};
-ghost use Prim.Native.Nat.{_*_};
 ghost use Rattle.machine.specs.Save.{register, counter, inHandler};
 ghost use Rattle.machine.specs.Faults.{faultNumber, faults};
 ghost use Rattle.machine.specs.Local.{isReady, advanced, resulted};
 
-fn place(r: u8) -> u16
-    ensures { λ x. ⌜ x ≡ 4 * r ⌝ }
-{
-    WIDTH * (r as u16)
-}
-
-pub fn get_register(s: &[u8], r: u8) -> u32
+pub fn get_register(s: &[u8], r: u32) -> u32
     ensures { λ x. ⌜ x ≡ register (now (s .entry)) r ⌝ }
 {
-    get_word(s, place(r))
+    get_word(s, r)
 }
 
 pub fn get_counter(s: &[u8]) -> u16
@@ -56,10 +48,10 @@ pub fn advance(s: &mut [u8])
     put_half(s, COUNTER, at + 4);
 }
 
-pub fn put_result(s: &mut [u8], a: u8, x: u32)
+pub fn put_result(s: &mut [u8], a: u32, x: u32)
     ensures { λ _. ⌜ now (s .exit) ≡ resulted (now (s .entry)) a x ⌝ }
 {
-    put_word(s, place(a), x);
+    put_word(s, a, x);
     advance(s);
 }
 

@@ -19,8 +19,10 @@ use parts::is_ready;
 use parts::takes_interrupt;
 ghost use mathlib.Core.Path.{_≡_};
 ghost use Prim.Native.Nat.{_+_, _≤_};
-ghost use lib.ListN.{length};
+ghost use lib.ListN.{length, getD};
+ghost use Rattle.machine.specs.Local.{isAble};
 ghost use Rattle.machine.specs.Tick.{ticked};
+ghost use Rattle.parts.specs.Parts.{savedAt};
 ghost use Rattle.tick.specs.Seat.{seatOf, Inside, Fits};
 ghost use Rattle.tick.specs.Done.{acted, obeyed, stepped};
 
@@ -89,9 +91,9 @@ fn step<'a>(
     requires { ⌜ Fits (now base) (now size) segments row code save (length (now memory)) ⌝ }
     ensures { λ _. ⌜ now (memory .exit) ≡ stepped (seatOf (now (base .entry)) (now (size .entry)) (now (rights .entry)) segments row) code save (now (memory .entry)) ⌝ }
 {
-    let from = entry(base, save);
-    let start = entry(base, code);
-    let room = entry(size, code);
+    let from = entry(base, save as u32);
+    let start = entry(base, code as u32);
+    let room = entry(size, code as u32);
     let pc = get_counter(memory, from);
     if room < (pc as usize) + 4 {
         fault(memory, from, Fault::CounterOver);
@@ -101,7 +103,8 @@ fn step<'a>(
     }
 }
 
-// A tick of the partition with this code and this save segment, and its rights from `row` on.
+// A tick of the partition with this code and this save segment, and its rights from `row` on; whether it had something
+// to do.
 pub fn tick<'a>(
     memory: &mut [u8],
     base: &'a [u16; 32],
@@ -111,16 +114,22 @@ pub fn tick<'a>(
     row: u16,
     code: u8,
     save: u8,
-)
+) -> bool
     requires { ⌜ Fits (now base) (now size) segments row code save (length (now memory)) ⌝ }
-    ensures { λ _. ⌜ now (memory .exit) ≡ ticked (seatOf (now (base .entry)) (now (size .entry)) (now (rights .entry)) segments row) code save (now (memory .entry)) ⌝ }
+    ensures { λ r.
+        ⌜
+        (now (memory .exit) ≡ ticked (seatOf (now (base .entry)) (now (size .entry)) (now (rights .entry)) segments row) code save (now (memory .entry)))
+        × (r ≡ isAble (savedAt (now (memory .entry)) (getD (now (base .entry)) save 0)))
+        ⌝ }
 {
-    let from = entry(base, save);
+    let from = entry(base, save as u32);
     if takes_interrupt(memory, from) {
         interrupt(memory, from);
-        return;
+        return true;
     }
     if is_ready(memory, from) {
         step(memory, base, size, rights, segments, row, code, save);
+        return true;
     }
+    false
 }

@@ -16,7 +16,7 @@ fn wide(x: u16) -> usize
     x as usize
 }
 
-pub(crate) fn entry<'a>(table: &'a [u16; 32], s: u8) -> usize
+pub(crate) fn entry<'a>(table: &'a [u16; 32], s: u32) -> usize
     requires { ⌜ s < 32 ⌝ }
     ensures { λ r. ⌜ r ≡ getD (now (table .entry)) s 0 ⌝ }
 {
@@ -32,11 +32,11 @@ fn gives(mode: u8, asked: u8) -> bool
 }
 
 // The current partition's rights begin at `row`.
-pub(crate) fn may<'a>(rights: &'a [u8; 256], segments: u8, row: u16, asked: u8, c: u8) -> bool
+pub(crate) fn may<'a>(rights: &'a [u8; 256], segments: u8, row: u16, asked: u8, c: u32) -> bool
     requires { ⌜ (segments ≤ 32) × (row ≤ 224) ⌝ }
     ensures { λ r. ⌜ r ≡ reaches segments (givesAsked asked (getD (now (rights .entry)) (row + c) 0)) c ⌝ }
 {
-    if c < segments {
+    if c < segments as u32 {
         let i = wide(row) + (c as usize);
         return gives(rights[i], asked);
     }

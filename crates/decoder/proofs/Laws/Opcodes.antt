@@ -1,7 +1,7 @@
 -- A decoded instruction is of the kind that its opcode byte names: each opcode of the table, and none past it.
-use Prim.Native.Nat.{ℕ, zero, suc, _+_, _*_}
+use Prim.Native.Nat.{ℕ, zero, suc, _+_, _*_, _≤_, zero-le}
 use native.Mathlib.Omega.{arith}
-use mathlib.Core.Path.{_≡_, ap}
+use mathlib.Core.Path.{_≡_, refl, ap}
 use mathlib.Core.Bool.{Bool, true, false, cond}
 use lib.ListN.{getD}
 use borrow.Author.Tests.{lt-ltb}
@@ -10,6 +10,30 @@ use Rattle.machine.specs.declared.Instr.the-variants.{Halt, Set, Add, Sub, And,
 use Rattle.machine.specs.declared.Decoded.{Decoded}
 use Rattle.machine.specs.declared.Decoded.the-variants.{Runs, Bad}
 use Rattle.machine.specs.Decode.{registerMasks, operandsFit, opcodeOf, kindOf, decodeOf}
+
+-- An opcode that is none of the keys below n, as the end of a match has it, is n or more.
+abbrev NoneBelow : ℕ → ℕ → Type 0
+NoneBelow zero op = Unit {0}
+NoneBelow (suc n) op = NoneBelow n op × (op ≡ n → ⊥)
+
+above : (n op : ℕ) → NoneBelow n op → n ≤ op
+above zero op d = zero-le
+above (suc n) op d =
+    let h = above n op (d .0) in
+    let e = d .1 in
+    omega arith
+
+pub kind-none : (op a b c : ℕ) → NoneBelow 13 op → kindOf op a b c ≡ Bad
+unfolding kindOf
+kind-none op a b c d = rw (lt-ltb 12 op (above 13 op d))
+
+cond-bad : (t : Bool) → cond t Bad Bad ≡ Bad
+cond-bad true = refl
+cond-bad false = refl
+
+pub decode-none : (op a b c : ℕ) → NoneBelow 13 op → decodeOf op a b c ≡ Bad
+unfolding decodeOf
+decode-none op a b c d = rw (kind-none op a b c d) (cond-bad (operandsFit (getD registerMasks op 0) a b c))
 
 pub bad-runs : (i : Instr) → Bad ≡ Runs i → ⊥
 bad-runs i e =

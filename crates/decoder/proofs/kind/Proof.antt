@@ -1,18 +1,16 @@
 -- Each key of the match is the opcode that the definition tests, and what is none of the keys is above 12.
-use native.Mathlib.Omega.{arith}
-use mathlib.Core.Path.{_≡_}
-use Prim.Native.Nat.{ℕ, _+_, _≤_, zero-le}
-use borrow.Author.Tests.{lt-ltb}
+use mathlib.Core.Path.{sym}
 use Rattle.machine.specs.Decode.{kindOf}
+use Rattle.decoder.proofs.Laws.Opcodes.{kind-none}
 use borrow.Author.Needs.{needs}
 use Rattle.decoder.proofs.kind.Statement.{statement}
 use Rattle.decoder.proofs.kind.Tie as tie
 
-past : (n k : ℕ) → n ≤ k → (k ≡ n → ⊥) → n + 1 ≤ k
-past n k h d = omega arith
-
 number-requires : tie.Need-number-requires
 number-requires c κs = search needs
+
+cast-n : tie.Need-cast-n
+cast-n c = search needs
 
 returns : tie.Need-returns
 unfolding kindOf
@@ -67,41 +65,14 @@ unfolding kindOf
 returns-13 c = rw (c .match .keys13)
 
 returns-14 : tie.Need-returns-14
-unfolding kindOf
-returns-14 c =
-    let op = c .before .before .args .op in
-    let r12 = c .match .rest in
-    let r11 = r12 .0 in
-    let r10 = r11 .0 in
-    let r9 = r10 .0 in
-    let r8 = r9 .0 in
-    let r7 = r8 .0 in
-    let r6 = r7 .0 in
-    let r5 = r6 .0 in
-    let r4 = r5 .0 in
-    let r3 = r4 .0 in
-    let r2 = r3 .0 in
-    let r1 = r2 .0 in
-    let r0 = r1 .0 in
-    let a1 = past 0 op zero-le (r0 .1) in
-    let a2 = past 1 op a1 (r1 .1) in
-    let a3 = past 2 op a2 (r2 .1) in
-    let a4 = past 3 op a3 (r3 .1) in
-    let a5 = past 4 op a4 (r4 .1) in
-    let a6 = past 5 op a5 (r5 .1) in
-    let a7 = past 6 op a6 (r6 .1) in
-    let a8 = past 7 op a7 (r7 .1) in
-    let a9 = past 8 op a8 (r8 .1) in
-    let a10 = past 9 op a9 (r9 .1) in
-    let a11 = past 10 op a10 (r10 .1) in
-    let a12 = past 11 op a11 (r11 .1) in
-    simp (lt-ltb 12 op (past 12 op a12 (r12 .1)))
+returns-14 c = let a = c .before .before .args in sym (kind-none (a .op) (a .a) (a .b) (a .c) (c .match .rest))
 
 pub kind-spec : {M : Type 1} → statement M
 kind-spec =
     tie.close
     (tie.spec
     number-requires
+    cast-n
     returns
     returns-2
     returns-3

@@ -1,5 +1,5 @@
 -- An interrupt is tested first, then whether the partition is ready, as in the definition; else nothing is written.
-use mathlib.Core.Path.{sym, _∙_}
+use mathlib.Core.Path.{refl, sym, _∙_}
 use Rattle.machine.specs.Tick.{effect, ticked}
 use Rattle.machine.proofs.Laws.Tests.{interrupts-due}
 use Rattle.tick.proofs.Laws.Reach.{save-inside}
@@ -28,7 +28,7 @@ unfolding ticked effect
 returns c =
     let i = c .before .before .before .before in
     let t = i .before in
-    rw (c .before .before .interrupt .ensures, ← t .before .before .entry .ensures, ← t .takes-interrupt .ensures, i .if1 .taken)
+    rw (c .before .before .interrupt .ensures, ← t .before .before .entry .ensures, ← t .takes-interrupt .ensures, i .if1 .taken) (refl, refl)
 
 is-ready-requires : tie.Need-is-ready-requires
 is-ready-requires c κs = rw (c .before .before .before .before .entry .ensures) (save-inside (c .before .before .before .before .before .before .pre))
@@ -52,6 +52,7 @@ returns-2 c =
       ← r .is-ready .ensures,
       c .before .before .before .before .if2 .taken,
     )
+    (refl, refl)
 
 same-length-3 : tie.Need-same-length-3
 same-length-3 c = search needs
@@ -68,6 +69,7 @@ returns-3 c =
       ← r .is-ready .ensures,
       c .if2 .left,
     )
+    (refl, refl)
 
 pub tick-spec : {M : Type 1} → statement M
 tick-spec =

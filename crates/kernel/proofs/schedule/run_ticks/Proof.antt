@@ -1,25 +1,35 @@
--- Each turn is one tick more of the machine; a state that stands has the slot, its partition and the segments in range.
-use Prim.Native.Nat.{_-_, _≤_, _<_}
+-- Each turn is a stretch of the machine's ticks, as many as the slot has left or the Run; a state that stands has the slot, its partition and the
+-- segments in range.
+use Prim.Native.Nat.{ℕ, _+_, _-_, _≤_, _<_, min}
 use mathlib.Core.Path.{_≡_, refl, sym, _∙_, ap}
 use native.Mathlib.Omega.{arith}
+use lib.ListN.{getD}
 use borrow.Author.Needs.{needs}
 use Rattle.policy.specs.Record.{viewOf}
 use Rattle.calls.specs.Run.{stateOf, ticked}
-use Rattle.kernel.proofs.Laws.Reached.{Reached, reached-none, slot-in, used-in, slot-below, owner-below, tick-fits, reached-more}
+use Rattle.kernel.proofs.Laws.Reached.{Reached, reached-none, slot-in, used-in, count-in, slot-below, owner-below, tick-fits, reached-more}
 use Rattle.kernel.proofs.schedule.run_ticks.Statement.{statement}
 use Rattle.kernel.proofs.schedule.run_ticks.Tie as tie
 
 abbrev Inv-loop : tie.InvT-loop
-Inv-loop memory₀ n policy here₀ i₀ memory here i = (i ≤ n) × Reached policy (stateOf memory₀ here₀) memory here i
+Inv-loop memory₀ n policy here₀ left₀ memory here left = (left ≤ n) × Reached policy (stateOf memory₀ here₀) memory here (n - left)
 
 abbrev μ-loop : tie.MeasureT-loop
-μ-loop memory₀ n policy here₀ i₀ memory here i = n - i
+μ-loop memory₀ n policy here₀ left₀ memory here left = left
 
 loop-holds : tie.Need-loop-holds Inv-loop μ-loop
-loop-holds c = (search needs, reached-none _ _ _ (c .before .pre .1))
+loop-holds c =
+    let b = c .before in
+    let e : b .args .n - b .args .n ≡ 0 = omega arith in
+    (search needs, rw e (reached-none _ _ _ (b .pre .1)))
 
 slot-small : (h : tie.At-loop Inv-loop μ-loop) → h .loop .here .slot < 32
 slot-small h = slot-below _ (h .before .before .pre .0) _ _ _ _ (h .loop .inv .1)
+
+counts : (h : tie.At-loop Inv-loop μ-loop) (count : ℕ) → 0 < h .loop .left
+    → count ≡ min (h .loop .left) (getD (h .before .before .args .t1 .ticks) (h .loop .here .slot) 0 - h .loop .here .used)
+    → (0 < count) × (h .loop .here .used + count ≤ getD (h .before .before .args .t1 .ticks) (h .loop .here .slot) 0) × (count ≤ h .loop .left)
+counts h count = count-in _ (h .before .before .pre .0) _ _ _ _ (h .loop .inv .1) _ count
 
 cast-slot : tie.Need-cast-slot Inv-loop μ-loop
 cast-slot c = omega (arith, slot-small (c .before .before))
@@ -27,38 +37,63 @@ cast-slot c = omega (arith, slot-small (c .before .before))
 element-copy-out-owner : tie.Need-element-copy-out-owner Inv-loop μ-loop
 element-copy-out-owner c = slot-small (c .before .before)
 
-tick-of-requires : tie.Need-tick-of-requires Inv-loop μ-loop
-tick-of-requires c κs =
-    let h = c .before .before .before .before .before .before .before .before .before .before in
+mul-ticks : tie.Need-mul-ticks Inv-loop μ-loop
+mul-ticks c = omega (arith, slot-small (c .before .before .before))
+
+element-copy-out-ticks : tie.Need-element-copy-out-ticks Inv-loop μ-loop
+element-copy-out-ticks c = slot-small (c .before .before .before)
+
+cast-lesser : tie.Need-cast-lesser Inv-loop μ-loop
+cast-lesser c = search needs
+
+sub-lesser : tie.Need-sub-lesser Inv-loop μ-loop
+sub-lesser c =
+    let h = c .before .before .before .before .before in
+    omega (arith, used-in _ (h .before .before .pre .0) _ _ _ _ (h .loop .inv .1))
+
+lesser-requires : tie.Need-lesser-requires Inv-loop μ-loop
+lesser-requires c κs = search needs
+
+stretch-requires : tie.Need-stretch-requires Inv-loop μ-loop
+stretch-requires c κs =
+    let h = c .before .before .before .before .before .before .before .before .before .before .before .before .before in
     let s = h .before .before .pre .0 in
     (owner-below _ s _ _ _ _ (h .loop .inv .1), tick-fits _ s _ _ _ _ (h .loop .inv .1))
 
-mul-move-on : tie.Need-mul-move-on Inv-loop μ-loop
-mul-move-on c = omega (arith, slot-small (c .before .before .before .before .before .before .before .before .before .before .before .before .before))
+move-by-requires : tie.Need-move-by-requires Inv-loop μ-loop
+move-by-requires c κs =
+    let f = c .before .before .before .before .before .before .before .before .before .before in
+    let t = f .before .before .before .before .before in
+    let h = t .before in
+    let k = counts h _ (t .loop-test .taken) (f .lesser .ensures) in
+    (slot-in _ (h .before .before .pre .0) _ _ _ _ (h .loop .inv .1), k .1, k .0)
 
-element-copy-out-move-on : tie.Need-element-copy-out-move-on Inv-loop μ-loop
-element-copy-out-move-on c = slot-small (c .before .before .before .before .before .before .before .before .before .before .before .before .before)
-
-move-on-requires : tie.Need-move-on-requires Inv-loop μ-loop
-move-on-requires c κs =
-    let h = c .before .before .before .before .before .before .before .before .before .before .before .before .before .before in
-    let s = h .before .before .pre .0 in
-    (slot-in _ s _ _ _ _ (h .loop .inv .1), used-in _ s _ _ _ _ (h .loop .inv .1))
-
-add-i : tie.Need-add-i Inv-loop μ-loop
-add-i c = search needs
+sub-left : tie.Need-sub-left Inv-loop μ-loop
+sub-left c =
+    let f = c .before .before .before .before .before .before .before .before .before .before .before in
+    let t = f .before .before .before .before .before in
+    counts (t .before) _ (t .loop-test .taken) (f .lesser .ensures) .2
 
 loop-less : tie.Need-loop-less Inv-loop μ-loop
-loop-less c = search needs
+loop-less c =
+    let f = c .before .before .before .before .before .before .before .before .before .before .before in
+    let t = f .before .before .before .before .before in
+    let k = counts (t .before) _ (t .loop-test .taken) (f .lesser .ensures) in
+    omega (arith, k .0, k .2)
 
 loop-again : tie.Need-loop-again Inv-loop μ-loop
 loop-again c =
-    let t = c .before .before .before .before .before .before .before .before .before .before .before .before .before .before in
+    let f = c .before .before .before .before .before .before .before .before .before .before .before in
+    let t = f .before .before .before .before .before in
     let h = t .before in
-    let s = h .before .before .pre .0 in (
-      omega (arith, t .loop-test .taken),
-      reached-more _ s _ _ _ _ (h .loop .inv .1) _ _ (c .before .before .before .before .tick-of .ensures)
-          (c .move-on .ensures (viewOf (h .before .before .args .t1)) refl refl),
+    let p = h .before .before in
+    let count = f .lesser .result in
+    let k = counts h count (t .loop-test .taken) (f .lesser .ensures) in
+    let e : p .args .n - (h .loop .left - count) ≡ p .args .n - h .loop .left + count = omega (arith, k .2, h .loop .inv .0) in (
+      omega (arith, h .loop .inv .0),
+      rw e
+          (reached-more _ (p .pre .0) _ _ _ _ (h .loop .inv .1) count (k .1) _ _ (c .before .before .before .stretch .ensures)
+          (c .move-by .ensures (viewOf (p .args .t1)) refl refl)),
     )
 
 same-length : tie.Need-same-length Inv-loop μ-loop
@@ -68,7 +103,7 @@ returns : tie.Need-returns Inv-loop μ-loop
 returns c =
     let h = c .before .loop in
     let a = c .before .before .before .args in
-    let e : h .i ≡ a .n = omega arith in
+    let e : a .n - h .left ≡ a .n = omega arith in
     h .inv .1 .state ∙ ap (λ k. ticked (viewOf (a .t1)) k (stateOf (a .memory .now) (a .place))) e
 
 pub run-ticks-spec : {M : Type 1} → statement M
@@ -80,11 +115,14 @@ run-ticks-spec =
     loop-holds
     cast-slot
     element-copy-out-owner
-    tick-of-requires
-    mul-move-on
-    element-copy-out-move-on
-    move-on-requires
-    add-i
+    mul-ticks
+    element-copy-out-ticks
+    cast-lesser
+    sub-lesser
+    lesser-requires
+    stretch-requires
+    move-by-requires
+    sub-left
     loop-less
     loop-again
     same-length

@@ -4,6 +4,9 @@ use borrow.Author.Needs.{needs}
 use Rattle.savearea.proofs.bytes.get_word.Statement.{statement}
 use Rattle.savearea.proofs.bytes.get_word.Tie as tie
 
+mul-i : tie.Need-mul-i
+mul-i c = search needs
+
 byte-at-requires : tie.Need-byte-at-requires
 byte-at-requires c κs = search needs
 
@@ -36,6 +39,7 @@ pub get-word-spec : {M : Type 1} → statement M
 get-word-spec =
     tie.close
     (tie.spec
+    mul-i
     byte-at-requires
     add-byte-at
     byte-at-requires-2

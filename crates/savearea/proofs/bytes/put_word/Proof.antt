@@ -4,6 +4,9 @@ use borrow.Author.Needs.{needs}
 use Rattle.savearea.proofs.bytes.put_word.Statement.{statement}
 use Rattle.savearea.proofs.bytes.put_word.Tie as tie
 
+mul-i : tie.Need-mul-i
+mul-i c = search needs
+
 low-requires : tie.Need-low-requires
 low-requires c κs = search needs
 
@@ -48,6 +51,7 @@ pub put-word-spec : {M : Type 1} → statement M
 put-word-spec =
     tie.close
     (tie.spec
+    mul-i
     low-requires
     put-requires
     add-put

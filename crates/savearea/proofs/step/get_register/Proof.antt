@@ -3,9 +3,6 @@ use borrow.Author.Needs.{needs}
 use Rattle.savearea.proofs.step.get_register.Statement.{statement}
 use Rattle.savearea.proofs.step.get_register.Tie as tie
 
-place-requires : tie.Need-place-requires
-place-requires c κs = search needs
-
 get-word-requires : tie.Need-get-word-requires
 get-word-requires c κs = search needs
 
@@ -13,4 +10,4 @@ returns : tie.Need-returns
 returns c = cc
 
 pub get-register-spec : {M : Type 1} → statement M
-get-register-spec = tie.close (tie.spec place-requires get-word-requires returns)
+get-register-spec = tie.close (tie.spec get-word-requires returns)

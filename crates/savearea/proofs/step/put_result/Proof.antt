@@ -4,9 +4,6 @@ use borrow.Author.Needs.{needs}
 use Rattle.savearea.proofs.step.put_result.Statement.{statement}
 use Rattle.savearea.proofs.step.put_result.Tie as tie
 
-place-requires : tie.Need-place-requires
-place-requires c κs = search needs
-
 put-word-requires : tie.Need-put-word-requires
 put-word-requires c κs = search needs
 
@@ -22,4 +19,4 @@ returns c = cc
 
 pub put-result-spec : {M : Type 1} → statement M
 put-result-spec =
-    tie.close (tie.spec place-requires put-word-requires advance-requires same-length returns)
+    tie.close (tie.spec put-word-requires advance-requires same-length returns)

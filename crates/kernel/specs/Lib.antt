@@ -1,0 +1,2 @@
+-- What the contracts of a Run's inner loop cite.
+pub mod Stretch
