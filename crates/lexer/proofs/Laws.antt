@@ -2,7 +2,11 @@ pub mod Cut
 pub mod Bytes
 pub mod Numbers
 pub mod Fields
+pub mod Ends
+pub mod Words
+pub mod Digits
 pub mod Readers
 pub mod Forward
+pub mod Within
 pub mod Said
 pub mod Line

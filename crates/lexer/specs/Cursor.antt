@@ -1,11 +1,11 @@
 -- 01: "The reader's place, a byte and a line number, moves forward past each field." What each reader finds at the place
 -- that it is lent, and where it leaves the place. A line is the text up to the line's end.
 use Prim.Native.Nat.{ℕ, _+_}
-use mathlib.Core.Bool.{Bool, true, false, cond}
-use mathlib.Core.List.{List}
+use mathlib.Core.Bool.{Bool, true, false, _&&_, not, cond}
+use mathlib.Core.List.{List, [], _∷_}
 use lib.Dec.{eqb, ltb}
 use lib.ListN.{length, take, getD}
-use Rattle.lexer.specs.declared.field.WordRead.{WordRead}
+use Rattle.lexer.specs.declared.word.WordRead.{WordRead}
 use Rattle.lexer.specs.declared.field.NumberRead.{NumberRead}
 use Rattle.lexer.specs.declared.field.EndRead.{EndRead}
 use Rattle.lexer.specs.declared.parse.FieldsRead.{FieldsRead}
@@ -22,6 +22,15 @@ use Rattle.text.specs.declared.line.Line.{Line}
 use Rattle.text.specs.declared.line.Line.the-variants.{Bad}
 use Rattle.text.specs.declared.line.Number.{Number}
 use Rattle.text.specs.declared.line.Number.the-variants.{Value, Malformed}
+
+-- The text up to the end of the line in which a place stands.
+abbrev pub upTo : List ℕ → ℕ → List ℕ
+upTo text at = take (endAt lineEnd text at) text
+
+-- Whether no separator stands among bytes, so that they can be one field.
+unfoldable pub unparted : List ℕ → Bool
+unparted [] = true
+unparted (b ∷ bs) = not (eqb b tab) && not (eqb b lineEnd) && unparted bs
 
 -- The record word: the first field, and the place at its end.
 unfoldable pub wordRead : List ℕ → Cursor → WordRead
@@ -103,4 +112,4 @@ lineAt text at = cond (ltb (endAt lineEnd text at) (length text)) (lineOf (field
 
 unfoldable pub lineRead : List ℕ → ℕ → ℕ → LineRead
 lineRead text at n =
-    record { line = lineAt text at; next = fieldsRead text (take (endAt lineEnd text at) text) at n .next }
+    record { line = lineAt text at; next = fieldsRead text (upTo text at) at n .next }

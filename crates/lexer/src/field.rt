@@ -1,21 +1,15 @@
-// One field of a line, read by value at a place. The line is the text up to the line's end; the place stands at the end
-// of the field before, so at a tab or at the line's end.
+// One field of a line, read by value at a place. The place stands at the end of the field before, so at a tab or at the
+// line's end. A reader is lent the whole text and finds the field's end itself, so that each byte is passed once.
 ghost use mathlib.Core.Path.{_≡_};
 ghost use Prim.Native.Nat.{_<_};
 ghost use Rattle.text.specs.Number.{number, letters};
 ghost use Rattle.text.specs.Places.{fieldAfter, found as foundAt};
-ghost use Rattle.lexer.specs.Cursor.{wordRead, takenFrom, numberRead, lettersRead, endRead};
+ghost use Rattle.lexer.specs.Cursor.{upTo, takenFrom, numberRead, lettersRead, endRead};
 use text::Cursor;
 use text::Field;
-use text::Kind;
 use text::Number;
 
 // What a reader finds, and where it leaves the place.
-pub struct WordRead {
-    pub kind: Kind,
-    pub next: Cursor,
-}
-
 pub struct NumberRead {
     pub number: Number,
     pub next: Cursor,
@@ -35,19 +29,33 @@ fn found(n: Number, c: Cursor) -> Field
     }
 }
 
-// The next field, read as a number.
-pub fn next_number(line: &[u8], c: Cursor) -> Field
-    ensures { λ r. ⌜ r ≡ fieldAfter number (now (line .entry)) c ⌝ }
+// The next field, read as a number: 1 to 5 digits and then the field's end, no leading zero but in 0 itself.
+pub(crate) fn next_number(text: &[u8], c: Cursor) -> Field
+    ensures { λ r. ⌜ r ≡ fieldAfter number (upTo (now (text .entry)) (c .at)) c ⌝ }
 {
     let at = c.at;
-    if line.len() <= at {
+    if text.len() <= at {
+        return Field::Missing;
+    }
+    if text[at] == b'\n' {
         return Field::Missing;
     }
     let from = at + 1;
-    let end = crate::scan::find(line, from, b'\t');
-    let n = crate::scan::number_of(&line[from..end]);
-    found(
-        n,
+    let d = crate::scan::digits_from(text, from);
+    let end = d.end;
+    if end == from {
+        return Field::Missing;
+    }
+    if !crate::scan::ends(text, end) {
+        return Field::Missing;
+    }
+    if text[from] == b'0' {
+        if from + 1 < end {
+            return Field::Missing;
+        }
+    }
+    Field::Found(
+        d.value,
         Cursor {
             at: end,
             line: c.line,
@@ -56,16 +64,19 @@ pub fn next_number(line: &[u8], c: Cursor) -> Field
 }
 
 // The next field, read as the letters of a right.
-pub fn next_letters(line: &[u8], c: Cursor) -> Field
-    ensures { λ r. ⌜ r ≡ fieldAfter letters (now (line .entry)) c ⌝ }
+pub(crate) fn next_letters(text: &[u8], c: Cursor) -> Field
+    ensures { λ r. ⌜ r ≡ fieldAfter letters (upTo (now (text .entry)) (c .at)) c ⌝ }
 {
     let at = c.at;
-    if line.len() <= at {
+    if text.len() <= at {
+        return Field::Missing;
+    }
+    if text[at] == b'\n' {
         return Field::Missing;
     }
     let from = at + 1;
-    let end = crate::scan::find(line, from, b'\t');
-    let n = crate::scan::letters_of(&line[from..end]);
+    let end = crate::scan::field_end(text, from);
+    let n = crate::scan::letters_of(&text[from..end]);
     found(
         n,
         Cursor {
@@ -73,28 +84,6 @@ pub fn next_letters(line: &[u8], c: Cursor) -> Field
             line: c.line,
         },
     )
-}
-
-// The first field of the line, read as the record word.
-pub fn read_word(line: &[u8], c: Cursor) -> WordRead
-    ensures { λ r. ⌜ r ≡ wordRead (now (line .entry)) c ⌝ }
-{
-    let at = c.at;
-    if line.len() < at {
-        return WordRead {
-            kind: Kind::Unknown,
-            next: c,
-        };
-    }
-    let end = crate::scan::find(line, at, b'\t');
-    let kind = crate::scan::kind_of(&line[at..end]);
-    WordRead {
-        kind,
-        next: Cursor {
-            at: end,
-            line: c.line,
-        },
-    }
 }
 
 // A field that is missing leaves the place where it was.
@@ -113,20 +102,20 @@ fn taken(f: Field, c: Cursor) -> NumberRead
     }
 }
 
-pub fn read_number(line: &[u8], c: Cursor) -> NumberRead
-    ensures { λ r. ⌜ r ≡ numberRead (now (line .entry)) c ⌝ }
+pub(crate) fn read_number(text: &[u8], c: Cursor) -> NumberRead
+    ensures { λ r. ⌜ r ≡ numberRead (upTo (now (text .entry)) (c .at)) c ⌝ }
 {
-    taken(next_number(line, c), c)
+    taken(next_number(text, c), c)
 }
 
-pub fn read_letters(line: &[u8], c: Cursor) -> NumberRead
-    ensures { λ r. ⌜ r ≡ lettersRead (now (line .entry)) c ⌝ }
+pub(crate) fn read_letters(text: &[u8], c: Cursor) -> NumberRead
+    ensures { λ r. ⌜ r ≡ lettersRead (upTo (now (text .entry)) (c .at)) c ⌝ }
 {
-    taken(next_letters(line, c), c)
+    taken(next_letters(text, c), c)
 }
 
 // The line end at the place, if one stands there.
-pub fn read_end(text: &[u8], c: Cursor) -> EndRead
+pub(crate) fn read_end(text: &[u8], c: Cursor) -> EndRead
     requires { ⌜ c .line < 4294967295 ⌝ }
     ensures { λ r. ⌜ r ≡ endRead (now (text .entry)) c ⌝ }
 {

@@ -3,6 +3,7 @@ mod field;
 mod parse;
 mod scan;
 mod take;
+mod word;
 
 pub use parse::LineRead;
 pub use parse::line_from;

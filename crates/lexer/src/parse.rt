@@ -2,7 +2,7 @@
 ghost use Prim.Native.Nat.{_<_, _≤_};
 ghost use mathlib.Core.Path.{_≡_};
 ghost use lib.ListN.{length};
-ghost use Rattle.lexer.specs.Cursor.{fieldsRead, lineRead};
+ghost use Rattle.lexer.specs.Cursor.{upTo, fieldsRead, lineRead};
 ghost use Rattle.lexer.specs.Said.{twoSay, threeSay, rightSays, lettersSay, numberSays, restSays, fieldsSay};
 use text::Cursor;
 use text::Kind;
@@ -27,18 +27,18 @@ pub struct LineRead {
     pub next: Cursor,
 }
 
-// The place is lent to one reader after another; which of them found their field is for fields_say to judge. `line` is
-// the text up to the line's end.
-fn fields_from(text: &[u8], line: &[u8], at: usize, n: u32) -> FieldsRead
-    requires { ⌜ n < 4294967295 ⌝ }
-    ensures { λ r. ⌜ r ≡ fieldsRead (now (text .entry)) (now (line .entry)) at n ⌝ }
+// The place is lent to one reader after another; which of them found their field is for fields_say to judge. None
+// of them leaves the line.
+fn fields_from(text: &[u8], at: usize, n: u32) -> FieldsRead
+    requires { ⌜ (at ≤ length (now text)) × (n < 4294967295) ⌝ }
+    ensures { λ r. ⌜ r ≡ fieldsRead (now (text .entry)) (upTo (now (text .entry)) at) at n ⌝ }
 {
     let mut c = Cursor { at, line: n };
-    let kind = crate::take::take_word(line, &mut c);
-    let first = crate::take::take_number(line, &mut c);
-    let second = crate::take::take_number(line, &mut c);
-    let letters = crate::take::take_letters(line, &mut c);
-    let third = crate::take::take_number(line, &mut c);
+    let kind = crate::take::take_word(text, &mut c);
+    let first = crate::take::take_number(text, &mut c);
+    let second = crate::take::take_number(text, &mut c);
+    let letters = crate::take::take_letters(text, &mut c);
+    let third = crate::take::take_number(text, &mut c);
     let ended = crate::take::take_end(text, &mut c);
     FieldsRead {
         kind,
@@ -155,8 +155,7 @@ pub fn line_from(text: &[u8], at: usize, n: u32) -> LineRead
     requires { ⌜ (at ≤ length (now text)) × (n < 4294967295) ⌝ }
     ensures { λ r. ⌜ r ≡ lineRead (now (text .entry)) at n ⌝ }
 {
-    let end = crate::scan::find(text, at, b'\n');
-    let f = fields_from(text, &text[..end], at, n);
+    let f = fields_from(text, at, n);
     let line = fields_say(f);
     let next = f.next;
     LineRead { line, next }

@@ -2,44 +2,44 @@
 // field stands the place stays. What is read, and where the place goes, is the by-value reader's to say.
 ghost use Prim.Native.Nat.{_<_};
 ghost use mathlib.Core.Path.{_≡_};
-ghost use Rattle.lexer.specs.Cursor.{wordAt, pastWord, numberAt, pastNumber};
+ghost use Rattle.lexer.specs.Cursor.{upTo, wordAt, pastWord, numberAt, pastNumber};
 ghost use Rattle.lexer.specs.Cursor.{lettersAt, pastLetters, lineEndAt, pastLineEnd};
 use text::Cursor;
 use text::Kind;
 use text::Number;
 
 // The record word.
-pub fn take_word(line: &[u8], c: &mut Cursor) -> Kind
-    ensures { λ r. ⌜ (r ≡ wordAt (now (line .entry)) (now (c .entry)))
-        × (now (c .exit) ≡ pastWord (now (line .entry)) (now (c .entry))) ⌝ }
+pub(crate) fn take_word(text: &[u8], c: &mut Cursor) -> Kind
+    ensures { λ r. ⌜ (r ≡ wordAt (upTo (now (text .entry)) (now (c .entry) .at)) (now (c .entry)))
+        × (now (c .exit) ≡ pastWord (upTo (now (text .entry)) (now (c .entry) .at)) (now (c .entry))) ⌝ }
 {
-    let read = crate::field::read_word(line, *c);
+    let read = crate::word::read_word(text, *c);
     *c = read.next;
     read.kind
 }
 
 // A number.
-pub fn take_number(line: &[u8], c: &mut Cursor) -> Number
-    ensures { λ r. ⌜ (r ≡ numberAt (now (line .entry)) (now (c .entry)))
-        × (now (c .exit) ≡ pastNumber (now (line .entry)) (now (c .entry))) ⌝ }
+pub(crate) fn take_number(text: &[u8], c: &mut Cursor) -> Number
+    ensures { λ r. ⌜ (r ≡ numberAt (upTo (now (text .entry)) (now (c .entry) .at)) (now (c .entry)))
+        × (now (c .exit) ≡ pastNumber (upTo (now (text .entry)) (now (c .entry) .at)) (now (c .entry))) ⌝ }
 {
-    let read = crate::field::read_number(line, *c);
+    let read = crate::field::read_number(text, *c);
     *c = read.next;
     read.number
 }
 
 // The letters of a right.
-pub fn take_letters(line: &[u8], c: &mut Cursor) -> Number
-    ensures { λ r. ⌜ (r ≡ lettersAt (now (line .entry)) (now (c .entry)))
-        × (now (c .exit) ≡ pastLetters (now (line .entry)) (now (c .entry))) ⌝ }
+pub(crate) fn take_letters(text: &[u8], c: &mut Cursor) -> Number
+    ensures { λ r. ⌜ (r ≡ lettersAt (upTo (now (text .entry)) (now (c .entry) .at)) (now (c .entry)))
+        × (now (c .exit) ≡ pastLetters (upTo (now (text .entry)) (now (c .entry) .at)) (now (c .entry))) ⌝ }
 {
-    let read = crate::field::read_letters(line, *c);
+    let read = crate::field::read_letters(text, *c);
     *c = read.next;
     read.number
 }
 
 // The line end, if it stands at the place; past it the next line begins.
-pub fn take_end(text: &[u8], c: &mut Cursor) -> bool
+pub(crate) fn take_end(text: &[u8], c: &mut Cursor) -> bool
     requires { ⌜ now c .line < 4294967295 ⌝ }
     ensures { λ r. ⌜ (r ≡ lineEndAt (now (text .entry)) (now (c .entry)))
         × (now (c .exit) ≡ pastLineEnd (now (text .entry)) (now (c .entry))) ⌝ }

@@ -1,5 +1,5 @@
-// What a partition may reach, by the record's bytes. An entry past the end of an array reads as 0, so that a count of
-// any size has its answer.
+// What a partition may reach, by the record's bytes. An entry past the end of an array reads as 0, so that arrays of
+// any length have their answer.
 ghost use mathlib.Core.Path.{_≡_};
 ghost use mathlib.Core.List.{[]};
 ghost use lib.ListN.{getD};

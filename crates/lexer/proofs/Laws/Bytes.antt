@@ -1,11 +1,12 @@
 -- Whether two byte strings are the same, one byte more at a time: by the first bytes of what is left of each.
-use Prim.Native.Nat.{ℕ, _+_, _<_, _≤_}
-use mathlib.Core.Path.{_≡_, refl}
-use mathlib.Core.Bool.{true, false, and-false}
+use Prim.Native.Nat.{ℕ, suc, _+_, _<_, _≤_}
+use mathlib.Core.Path.{_≡_, refl, sym, ap}
+use mathlib.Core.Bool.{Bool, true, false, _&&_, true≢false, and-false}
 use mathlib.Core.List.{List, [], _∷_}
 use native.Mathlib.Numerals.{add-one}
 use native.Mathlib.Omega.{arith}
 use borrow.Author.Tests.{eq-eqb, ne-eqb}
+use lib.Dec.{eqb}
 use lib.ListN.{length, drop, getD, drop-of-length-le}
 use lib.Seq.{drop-cons}
 use Rattle.text.specs.Bytes.{same}
@@ -31,3 +32,19 @@ module _ (a b : List ℕ) (i : ℕ) where
   pub same-end : length a ≤ i → length b ≤ i → same (drop i a) (drop i b) ≡ true
   unfolding same
   same-end h k = rw (drop-of-length-le a h, drop-of-length-le b k)
+
+pub and-left : (a b : Bool) → a && b ≡ true → a ≡ true
+and-left true b h = refl
+and-left false b h = h
+
+pub and-right : (a b : Bool) → a && b ≡ true → b ≡ true
+and-right true b h = h
+and-right false b h = absurd (true≢false (sym h))
+
+-- Byte strings that are the same have one length.
+pub same-long : (a b : List ℕ) → same a b ≡ true → length a ≡ length b
+unfolding same
+same-long [] [] h = refl
+same-long [] (y ∷ b) h = absurd (true≢false (sym h))
+same-long (x ∷ a) [] h = absurd (true≢false (sym h))
+same-long (x ∷ a) (y ∷ b) h = ap suc (same-long a b (and-right (eqb x y) (same a b) h))

@@ -18,6 +18,16 @@ first-onto : (b : ℕ) (ps : List (List ℕ)) → first (onto b ps) ≡ b ∷ fi
 first-onto b [] = refl
 first-onto b (p ∷ ps) = refl
 
+-- The first piece, one byte at a time.
+module _ (b x : ℕ) (l : List ℕ) where
+  pub first-here : x ≡ b → first (cut b (x ∷ l)) ≡ []
+  unfolding cut
+  first-here e = rw (eq-eqb x b e)
+
+  pub first-more : (x ≡ b → ⊥) → first (cut b (x ∷ l)) ≡ x ∷ first (cut b l)
+  unfolding cut
+  first-more d = rw (ne-eqb x b d, first-onto)
+
 module _ (b : ℕ) (s : List ℕ) (i : ℕ) where
   pub end-past : length s ≤ i → endAt b s i ≡ i
   unfolding endAt pieceAt cut
@@ -32,7 +42,7 @@ module _ (b : ℕ) (s : List ℕ) (i : ℕ) where
   end-more h d = rw (drop-cons s i 0 h, ne-eqb (getD s i 0) b d, first-onto, add-one) (omega arith)
 
 module _ (b : ℕ) where
-  piece-within : (l : List ℕ) → length (first (cut b l)) ≤ length l
+  pub piece-within : (l : List ℕ) → length (first (cut b l)) ≤ length l
   unfolding cut
   piece-within [] = omega arith
   piece-within (x ∷ l) = go (eqb x b) (piece-within l)
@@ -43,7 +53,7 @@ module _ (b : ℕ) where
       go true h = omega arith
       go false h = rw first-onto (omega arith)
 
-  piece-front : (l : List ℕ) → take (length (first (cut b l))) l ≡ first (cut b l)
+  pub piece-front : (l : List ℕ) → take (length (first (cut b l))) l ≡ first (cut b l)
   unfolding cut
   piece-front [] = refl
   piece-front (x ∷ l) = go (eqb x b) (piece-front l)

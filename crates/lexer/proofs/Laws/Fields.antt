@@ -1,12 +1,12 @@
 -- The first field after a place, read so, says how the line goes on: by cases on whether the place is inside.
-use Prim.Native.Nat.{ℕ, _+_, _-_, _<_, _≤_}
+use Prim.Native.Nat.{ℕ, _+_, _<_, _≤_}
 use mathlib.Core.Path.{_≡_, refl, sym, _∙_, ap}
 use mathlib.Core.List.{List, [], _∷_}
 use native.Mathlib.Omega.{arith}
 use native.Mathlib.Decide.{decLt}
 use borrow.Author.Tests.{lt-ltb, le-ltb}
-use lib.ListN.{length, take, drop}
-use Rattle.lexer.proofs.Laws.Cut.{cut-at, piece-is}
+use lib.ListN.{length, drop}
+use Rattle.lexer.proofs.Laws.Cut.{cut-at}
 use Rattle.text.specs.Cut.{fieldsOf, tab}
 use Rattle.text.specs.Lines.{given, next, last}
 use Rattle.text.specs.Places.{pieceAt, endAt, fieldsAfter, found, fieldAfter}
@@ -79,11 +79,3 @@ module _ (read : List ℕ → Number) (line : List ℕ) (c : Cursor) where
   pub field-none : length line ≤ c .at → fieldAfter read line c ≡ Missing
   unfolding fieldAfter
   field-none h = rw (le-ltb (c .at) (length line) h)
-
-  -- A field's bytes, cut out from its start to the end that was found, and what they say.
-  pub field-some :
-      {end : ℕ} → c .at < length line → end ≡ endAt tab line (c .at + 1)
-      → found (read (take (end - (c .at + 1)) (drop (c .at + 1) line))) (record { at = end; line = c .line })
-      ≡ fieldAfter read line c
-  unfolding fieldAfter
-  field-some h e = rw (lt-ltb (c .at) (length line) h, e, piece-is)

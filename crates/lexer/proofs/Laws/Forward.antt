@@ -93,7 +93,7 @@ module _ (line : List ℕ) (c : Cursor) where
   letters-past {n} =
       by-field letters (λ r. r .number ≡ Value n → c .at < r .next .at) (λ h v e. beyond) (λ e. absurd (no-value e))
 
-along-more : {line : List ℕ} {c d e : Cursor} → Along line c d → Along line d e → Along line c e
+pub along-more : {line : List ℕ} {c d e : Cursor} → Along line c d → Along line d e → Along line c e
 along-more a b =
     record {
       byte = omega (arith, a .byte, b .byte);

@@ -11,11 +11,12 @@ use borrow.Author.Tests.{lt-ltb, le-ltb}
 use lib.ListN.{length, take, drop, getD}
 use lib.Seq.{take-add, drop-at, length-take-le}
 use Rattle.lexer.proofs.Laws.Cut.{piece-is, end-least, end-most, end-first, end-there}
+use Rattle.lexer.proofs.Laws.Ends.{up-long}
 use Rattle.lexer.proofs.Laws.Fields.{fields-at}
 use Rattle.lexer.proofs.Laws.Forward.{Forward, fields-along, inside, line-end-is, line-counted, line-end-forward}
 use Rattle.lexer.proofs.Laws.Readers.{line-end-here, line-end-other}
 use Rattle.lexer.proofs.Laws.Said.{closed, fields-say}
-use Rattle.lexer.specs.Cursor.{wordRead, numberRead, wordAt, pastWord, pastFields, lineEndAt}
+use Rattle.lexer.specs.Cursor.{upTo, wordRead, numberRead, wordAt, pastWord, pastFields, lineEndAt}
 use Rattle.lexer.specs.Cursor.{fieldsRead, lineAt, lineRead}
 use Rattle.lexer.specs.Said.{fieldsSay}
 use Rattle.lexer.specs.declared.parse.FieldsRead.{FieldsRead}
@@ -31,7 +32,7 @@ module _ (text : List ℕ) (at n : ℕ) (h : at ≤ length text) where
   end = endAt lineEnd text at
 
   abbrev line : List ℕ
-  line = take end text
+  line = upTo text at
 
   -- The place before the line's fields, and after them.
   abbrev from : Cursor
@@ -50,7 +51,7 @@ module _ (text : List ℕ) (at n : ℕ) (h : at ≤ length text) where
       ∙ rw (← add-sub-cancel-left at k) (piece-is lineEnd text at)
 
   line-long : length line ≡ end
-  line-long = length-take-le end text (end-most lineEnd text at h)
+  line-long = up-long text at h
 
   -- The fields leave the place on the line; where a line end stands at it, that is the line's.
   first-byte : at ≤ place .at
@@ -110,11 +111,10 @@ module _ (text : List ℕ) (at n : ℕ) (h : at ≤ length text) where
 
   -- The code's answer, by what it called.
   pub line-read :
-      {end′ : ℕ} {f : FieldsRead} {said : Line}
-      → end′ ≡ end → f ≡ fieldsRead text (take end′ text) at n → said ≡ fieldsSay f
+      {f : FieldsRead} {said : Line} → f ≡ fieldsRead text line at n → said ≡ fieldsSay f
       → record { line = said; next = f .next } ≡ lineRead text at n
   unfolding lineRead
-  line-read e g s = rw (s, g, e, line-says)
+  line-read g s = rw (s, g, line-says)
 
   -- A line that says something ends in hex 0A, and the place is left past that, on the next line.
   abbrev Left : Type 0

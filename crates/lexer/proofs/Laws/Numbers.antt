@@ -1,22 +1,16 @@
--- A number's digits, one more at a time: what the digits to come write after the value so far, and that it stays small.
-use Prim.Native.Nat.{ℕ, _+_, _-_, _*_, _^_, _<_, _≤_}
+-- Which bytes are a number, by the four demands on one; and that a value stays small, one digit more at a time.
+use Prim.Native.Nat.{ℕ, _+_, _*_, _^_, _<_, _≤_}
 use mathlib.Core.Path.{_≡_, refl}
-use mathlib.Core.Bool.{true, false, cond, and-true, and-false}
+use mathlib.Core.Bool.{true, false, and-true, and-false}
 use mathlib.Core.List.{List, [], _∷_}
 use native.Mathlib.Nat.{pow-suc, pow-le-pow-right}
 use native.Mathlib.Numerals.{add-one}
 use native.Mathlib.Omega.{arith}
 use borrow.Author.Tests.{lt-ltb, le-ltb, le-leb, lt-leb}
 use lib.Dec.{eqb}
-use lib.ListN.{length, drop, getD, drop-of-length-le}
-use lib.Seq.{drop-cons}
+use lib.ListN.{length, getD}
 use Rattle.text.specs.Number.{number, isNumber, allDigits, valueFrom, leadingZero}
-use Rattle.text.specs.declared.line.Number.{Number}
 use Rattle.text.specs.declared.line.Number.the-variants.{Value, Malformed}
-
--- What bytes say after digits that wrote v.
-unfoldable pub digitsAfter : ℕ → List ℕ → Number
-digitsAfter v l = cond (allDigits l) (Value (valueFrom v l)) Malformed
 
 pub zero-short : (l : List ℕ) → length l < 2 → leadingZero l ≡ false
 zero-short [] h = refl
@@ -39,28 +33,14 @@ module _ (l : List ℕ) where
   unfolding number isNumber
   number-led e = rw (e, and-false)
 
-  pub number-digits : 1 ≤ length l → length l ≤ 5 → leadingZero l ≡ false → number l ≡ digitsAfter 0 l
-  unfolding number isNumber digitsAfter
-  number-digits h k e = rw (le-leb 1 (length l) h, le-leb (length l) 5 k, e, and-true)
+  pub number-other : allDigits l ≡ false → number l ≡ Malformed
+  unfolding number isNumber
+  number-other e = rw (e, and-false)
 
-module _ (l : List ℕ) (v i : ℕ) where
-  pub digits-more :
-      i < length l → 0x30 ≤ getD l i 0 → getD l i 0 ≤ 0x39
-      → digitsAfter v (drop i l) ≡ digitsAfter (v * 10 + (getD l i 0 - 0x30)) (drop (i + 1) l)
-  unfolding digitsAfter allDigits valueFrom
-  digits-more h p q = rw (drop-cons l i 0 h, le-leb 0x30 (getD l i 0) p, le-leb (getD l i 0) 0x39 q, add-one)
-
-  pub digits-below : i < length l → getD l i 0 < 0x30 → digitsAfter v (drop i l) ≡ Malformed
-  unfolding digitsAfter allDigits
-  digits-below h p = rw (drop-cons l i 0 h, lt-leb 0x30 (getD l i 0) p)
-
-  pub digits-above : i < length l → 0x39 < getD l i 0 → digitsAfter v (drop i l) ≡ Malformed
-  unfolding digitsAfter allDigits
-  digits-above h p = rw (drop-cons l i 0 h, lt-leb (getD l i 0) 0x39 p, and-false)
-
-  pub digits-end : length l ≤ i → digitsAfter v (drop i l) ≡ Value v
-  unfolding digitsAfter allDigits valueFrom
-  digits-end h = rw (drop-of-length-le l h)
+  pub number-is :
+      1 ≤ length l → length l ≤ 5 → allDigits l ≡ true → leadingZero l ≡ false → number l ≡ Value (valueFrom 0 l)
+  unfolding number isNumber
+  number-is h k d e = rw (le-leb 1 (length l) h, le-leb (length l) 5 k, d, e)
 
 -- A value of i digits with a digit more has at most five digits, if i is below five.
 module _ (i v d : ℕ) (h : d ≤ 9) (k : v < 10 ^ i) where

@@ -1,36 +1,33 @@
 -- What each reader finds, by where its place stands: in the line, past it, or at a line end.
-use Prim.Native.Nat.{ℕ, _+_, _-_, _<_, _≤_}
+use Prim.Native.Nat.{ℕ, _+_, _<_, _≤_}
 use mathlib.Core.Path.{_≡_}
 use mathlib.Core.Bool.{true, false}
 use mathlib.Core.List.{List}
 use native.Mathlib.Nat.{add-zero}
 use native.Mathlib.Omega.{arith}
 use borrow.Author.Tests.{eq-eqb, ne-eqb}
-use lib.ListN.{length, take, drop, getD, drop-of-length-le, List·getD-eq-default}
-use Rattle.lexer.proofs.Laws.Cut.{piece-is}
-use Rattle.lexer.specs.Cursor.{wordRead, endRead}
+use lib.ListN.{length, getD, drop-of-length-le, List·getD-eq-default}
+use Rattle.lexer.proofs.Laws.Ends.{field-nil, piece-field, end-field}
+use Rattle.lexer.specs.Cursor.{upTo, wordRead, endRead}
 use Rattle.text.specs.Bytes.{same}
-use Rattle.text.specs.Cut.{cut, tab, lineEnd}
+use Rattle.text.specs.Cut.{lineEnd}
 use Rattle.text.specs.Lines.{wordOf}
-use Rattle.text.specs.Places.{pieceAt, endAt}
 use Rattle.text.specs.declared.line.Cursor.{Cursor}
-use Rattle.text.specs.declared.line.Kind.{Kind}
 use Rattle.text.specs.declared.line.Kind.the-variants.{Unknown}
 
-module _ (line : List ℕ) (c : Cursor) where
-  -- An empty word is no record word.
-  pub word-past : length line < c .at → wordRead line c ≡ record { kind = Unknown; next = c }
-  unfolding wordRead pieceAt endAt cut wordOf same
-  word-past h = rw (drop-of-length-le line {i = c .at} (omega arith), add-zero)
-
-  -- A word's bytes, cut out from the place to the end that was found.
-  pub word-some :
-      {end : ℕ} {kind : Kind} → end ≡ endAt tab line (c .at) → kind ≡ wordOf (take (end - c .at) (drop (c .at) line))
-      → record { kind = kind; next = record { at = end; line = c .line } } ≡ wordRead line c
-  unfolding wordRead
-  word-some e k = rw (k, e, piece-is)
-
 module _ (text : List ℕ) (c : Cursor) where
+  -- An empty word is no record word.
+  pub word-past : length text < c .at → wordRead (upTo text (c .at)) c ≡ record { kind = Unknown; next = c }
+  unfolding wordRead wordOf same
+  word-past h =
+      rw (
+        piece-field text (c .at),
+        end-field text (c .at),
+        drop-of-length-le text {i = c .at} (omega arith),
+        field-nil,
+        add-zero,
+      )
+
   pub line-end-here :
       getD text (c .at) 0 ≡ lineEnd
       → endRead text c ≡ record { ended = true; next = record { at = c .at + 1; line = c .line + 1 } }

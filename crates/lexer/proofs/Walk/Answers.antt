@@ -11,8 +11,8 @@ use Rattle.text.proofs.line.Kind as K
 use Rattle.text.proofs.line.Kind.Laws as K′
 use Rattle.text.proofs.line.Number as N
 use Rattle.text.proofs.line.Number.Laws as N′
-use Rattle.lexer.proofs.field.WordRead as GK
-use Rattle.lexer.proofs.field.WordRead.Laws as GK′
+use Rattle.lexer.proofs.word.WordRead as GK
+use Rattle.lexer.proofs.word.WordRead.Laws as GK′
 use Rattle.lexer.proofs.field.NumberRead as GN
 use Rattle.lexer.proofs.field.NumberRead.Laws as GN′
 use Rattle.lexer.proofs.field.EndRead as GB

@@ -1,6 +1,6 @@
 -- A mask of n tests has n bits, and each of them tells its test: by induction on the number of tests, with one bit cut off below.
-use Prim.Native.Nat.{ℕ, zero, suc, _+_, _-_, _*_, _/_, _%_, _^_, _<_, _≤_, min}
-use mathlib.Core.Path.{_≡_, refl, sym, ap, _∙_}
+use Prim.Native.Nat.{ℕ, zero, suc, _+_, _*_, _^_, _<_, _≤_, min}
+use mathlib.Core.Path.{_≡_, refl, sym, _∙_}
 use mathlib.Core.Bool.{Bool, true, false, cond, _&&_, not, true≢false}
 use native.Mathlib.Nat.{pow-suc}
 use native.Mathlib.Omega.{arith}

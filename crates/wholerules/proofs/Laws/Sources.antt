@@ -1,6 +1,6 @@
 -- Whether p may write t is asked once for all sources: where it may not, none of them is asked for a flow line. And the rule may be asked
 -- by target first.
-use Prim.Native.Nat.{ℕ, _<_}
+use Prim.Native.Nat.{ℕ}
 use mathlib.Core.Path.{_≡_, refl, sym, _∙_}
 use mathlib.Core.Bool.{Bool, true, false, _&&_, _||_, not}
 use mathlib.Core.List.{List}

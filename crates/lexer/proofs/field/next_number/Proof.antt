@@ -1,52 +1,91 @@
--- At the line's end there is no field; otherwise the field is from past the tab to the end that was found.
+-- At the line's end there is no field. Otherwise the digits past the tab are the whole field if it ends after them, and a
+-- field that goes on after its digits is no number.
 use mathlib.Core.Path.{sym}
 use borrow.Author.Needs.{needs}
-use native.Mathlib.Omega.{arith}
-use Rattle.text.specs.Number.{number}
-use Rattle.lexer.proofs.Laws.Cut.{end-least, end-most}
-use Rattle.lexer.proofs.Laws.Fields.{field-none, field-some}
+use borrow.Author.Tests.{not-true, not-false}
+use Rattle.lexer.proofs.Laws.Digits.{some-inside, no-digit, not-ended, zero-led, one-digit, not-led}
+use Rattle.lexer.proofs.Laws.Ends.{after-past, after-line}
 use Rattle.lexer.proofs.field.next_number.Statement.{statement}
 use Rattle.lexer.proofs.field.next_number.Tie as tie
 
 returns : tie.Need-returns
-returns c = sym (field-none _ _ _ (c .if1 .taken))
+returns c = sym (after-past _ _ _ (c .if1 .taken))
+
+shared-slice-read-if2 : tie.Need-shared-slice-read-if2
+shared-slice-read-if2 c = search needs
+
+returns-2 : tie.Need-returns-2
+returns-2 c = sym (after-line _ _ _ (c .before .before .if1 .left) (c .if2 .taken))
 
 add-from : tie.Need-add-from
 add-from c = search needs
 
-find-requires : tie.Need-find-requires
-find-requires c κs = search needs
+digits-from-requires : tie.Need-digits-from-requires
+digits-from-requires c κs = search needs
 
-sub-number-of : tie.Need-sub-number-of
-sub-number-of c = rw (c .find .ensures) (end-least _ _ _)
+returns-3 : tie.Need-returns-3
+returns-3 c =
+    let digits = c .before in
+    sym
+    (no-digit _ _ (digits .before .before .before .if1 .left) (digits .before .if2 .left) (digits .digits-from .ensures)
+    (c .if3 .taken))
 
-part-number-of-start : tie.Need-part-number-of-start
-part-number-of-start c = rw (c .find .ensures) (end-least _ _ _)
+ends-requires : tie.Need-ends-requires
+ends-requires c κs = search needs
 
-part-number-of-end : tie.Need-part-number-of-end
-part-number-of-end c = rw (c .find .ensures) (end-most _ _ _ (omega arith))
+returns-4 : tie.Need-returns-4
+returns-4 c =
+    let digits = c .before .before .before in
+    sym
+    (not-ended _ _ (digits .before .before .before .if1 .left) (digits .before .if2 .left) (digits .digits-from .ensures)
+    (c .before .ends .ensures) (not-true _ (c .if4 .taken)))
 
-number-of-requires : tie.Need-number-of-requires
-number-of-requires c κs = search needs
+shared-slice-read-if5 : tie.Need-shared-slice-read-if5
+shared-slice-read-if5 c =
+    let some = c .before .before .before in
+    some-inside _ _ (some .before .digits-from .ensures) (some .if3 .left)
 
-found-requires : tie.Need-found-requires
-found-requires c κs = search needs
+add-if6 : tie.Need-add-if6
+add-if6 c = search needs
 
-returns-2 : tie.Need-returns-2
-returns-2 c =
-    rw (c .found .ensures, c .before .number-of .ensures)
-    (field-some number _ _ (omega arith) (c .before .before .before .find .ensures))
+returns-5 : tie.Need-returns-5
+returns-5 c =
+    let ended = c .before .before .before in
+    let digits = ended .before .before .before in
+    sym
+    (zero-led _ _ (digits .before .before .before .if1 .left) (digits .before .if2 .left) (digits .digits-from .ensures)
+    (ended .before .ends .ensures) (not-false _ (ended .if4 .left)) (c .if6 .taken) (c .before .if5 .taken))
+
+returns-6 : tie.Need-returns-6
+returns-6 c =
+    let ended = c .before .before .before in
+    let digits = ended .before .before .before in
+    one-digit _ _ (digits .before .before .before .if1 .left) (digits .before .if2 .left)
+    (digits .digits-from .ensures) (ended .before .ends .ensures) (not-false _ (ended .if4 .left))
+    (ended .before .before .if3 .left) (c .if6 .left)
+
+returns-7 : tie.Need-returns-7
+returns-7 c =
+    let ended = c .before .before in
+    let digits = ended .before .before .before in
+    not-led _ _ (digits .before .before .before .if1 .left) (digits .before .if2 .left)
+    (digits .digits-from .ensures) (ended .before .ends .ensures) (not-false _ (ended .if4 .left))
+    (ended .before .before .if3 .left) (c .if5 .left)
 
 pub next-number-spec : {M : Type 1} → statement M
 next-number-spec =
     tie.close
     (tie.spec
     returns
+    shared-slice-read-if2
+    returns-2
     add-from
-    find-requires
-    sub-number-of
-    part-number-of-start
-    part-number-of-end
-    number-of-requires
-    found-requires
-    returns-2)
+    digits-from-requires
+    returns-3
+    ends-requires
+    returns-4
+    shared-slice-read-if5
+    add-if6
+    returns-5
+    returns-6
+    returns-7)

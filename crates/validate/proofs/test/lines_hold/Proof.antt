@@ -27,7 +27,9 @@ returns-2 c =
     )
 
 rights-good-requires : tie.Need-rights-good-requires
-rights-good-requires c κs = search needs
+rights-good-requires c κs =
+    let start = c .before .before .before .before .before .before .before .before .before .before .before .before in
+    (start .pre .0 .1, start .pre .1 .0)
 
 returns-3 : tie.Need-returns-3
 unfolding linesHold goodSegment goodPartition goodRight goodFlow goodSlot outOfRange clashes
@@ -39,7 +41,9 @@ returns-3 c =
     )
 
 flows-good-requires : tie.Need-flows-good-requires
-flows-good-requires c κs = search needs
+flows-good-requires c κs =
+    let start = c .before .before .before .before .before .before .before .before .before .before .before .before .before .before in
+    (start .pre .0 .0, start .pre .1 .1)
 
 returns-4 : tie.Need-returns-4
 unfolding linesHold goodSegment goodPartition goodRight goodFlow goodSlot outOfRange clashes

@@ -1,7 +1,6 @@
 -- The loop stops at the first partition that writes t and reads past the sources; the invariant: none before p does.
 use Prim.Native.Nat.{_-_}
 use mathlib.Core.List.{[]}
-use native.Mathlib.Omega.{arith}
 use borrow.Author.Needs.{needs}
 use lib.ListN.{getD}
 use Rattle.wholerules.specs.Masks.{maskLacks}

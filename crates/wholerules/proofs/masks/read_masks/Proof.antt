@@ -1,7 +1,6 @@
 -- The loop writes each partition's mask at its place; the invariant: those before p are written.
 use Prim.Native.Nat.{_-_}
 use mathlib.Core.List.{[]}
-use native.Mathlib.Omega.{arith}
 use borrow.Author.Needs.{needs}
 use Rattle.policy.specs.Access.{readable}
 use Rattle.wholerules.specs.Masks.{maskOf}
