@@ -1,4 +1,6 @@
 pub mod Loops
 pub mod Zeros
+pub mod Rows
+pub mod Bytes
 pub mod Past
 pub mod Shape

@@ -1,60 +1,64 @@
-// Rules 4 and 5 for the rights and the flow lines of a record. Most bytes are 0, and say nothing; those past the counts must be.
+// Rules 4 and 5 for the rights and the flow lines of a record, a row of 32 bytes at once. The rows past the counts must be 0.
 ghost use Prim.Native.Nat.{_≤_};
 ghost use mathlib.Core.Path.{_≡_};
 ghost use mathlib.Core.List.{[]};
-ghost use lib.Dec.{eqb};
+ghost use lib.Dec.{eqb, leb};
 ghost use lib.ListN.{getD, length};
 ghost use Rattle.policy.specs.Below.{eachBelow};
 ghost use Rattle.policy.specs.Clash.{isSave};
 ghost use Rattle.policy.specs.Limits.{single};
 ghost use Rattle.policy.specs.Sound.{goodFlow, goodRight};
 ghost use Rattle.validate.specs.Parts.{namesOf};
+ghost use Rattle.validate.specs.Rows.{rowGood};
 use crate::arrays::bytes_unused;
 use wholerules::byte_at;
 
-// Whether s is the save segment of q.
-fn is_save_of(save: &[u8], s: usize, q: u8) -> bool
-    ensures { λ r. ⌜ r ≡ eqb s (getD (now (save .entry)) q 0) ⌝ }
+// Whether no byte is over the most. No early exit: the compiler then looks at many at once.
+fn none_over(a: &[u8], most: u8) -> bool
+    ensures { λ r. ⌜ r ≡ eachBelow (length (now (a .entry))) (λ i. leb (getD (now (a .entry)) i 0) most) ⌝ }
 {
-    s == byte_at(save, q as usize) as usize
+    let mut i = 0;
+    let mut over = false;
+    while i < a.len() {
+        if most < a[i] {
+            over = true;
+        }
+        i += 1;
+    }
+    !over
 }
 
-// Whether s is a save segment.
-fn is_save(save: &[u8], partitions: u8, s: usize) -> bool
-    ensures { λ r. ⌜ r ≡ isSave (namesOf 0 partitions (now (save .entry))) s ⌝ }
+// Whether a row gives nothing on a save segment.
+fn off_saves<'a>(save: &'a [u8], row: &'a [u8], partitions: u8) -> bool
+    ensures { λ r.
+        ⌜
+        r ≡ eachBelow partitions
+        (λ q. eqb (getD (now (row .entry)) (getD (now (save .entry)) q 0) 0) 0)
+        ⌝ }
 {
     let mut q = 0;
     while q < partitions {
-        if is_save_of(save, s, q) {
-            return true;
+        let s = byte_at(save, q as usize) as usize;
+        if byte_at(row, s) != 0 {
+            return false;
         }
         q += 1;
     }
-    false
+    true
 }
 
-// Whether a right line may give the byte at k.
-fn right_good<'a>(save: &'a [u8], rights: &'a [u8], segments: u8, partitions: u8, k: usize) -> bool
+// Whether right lines may give a partition's row.
+fn right_row_good<'a>(save: &'a [u8], row: &'a [u8], segments: u8, partitions: u8) -> bool
     ensures { λ r.
-        ⌜
-        r ≡ goodRight single
-        (namesOf segments partitions (now (save .entry))) k (getD (now (rights .entry)) k 0)
-        ⌝ }
+        ⌜ r ≡ rowGood 3 segments (isSave (namesOf segments partitions (now (save .entry)))) (now (row .entry)) ⌝ }
 {
-    let mode = byte_at(rights, k);
-    if mode == 0 {
-        return true;
-    }
-    if 3 < mode {
+    if !none_over(row, 3) {
         return false;
     }
-    if (partitions as usize) <= k / 32 {
+    if !bytes_unused(row, segments as usize) {
         return false;
     }
-    if (segments as usize) <= k % 32 {
-        return false;
-    }
-    !is_save(save, partitions, k % 32)
+    off_saves(save, row, partitions)
 }
 
 pub(crate) fn rights_good<'a>(
@@ -70,48 +74,43 @@ pub(crate) fn rights_good<'a>(
         (λ k. goodRight single (namesOf segments partitions (now (save .entry))) k (getD (now (rights .entry)) k 0))
         ⌝ }
 {
-    let used = 32 * (partitions as usize);
-    let mut k = 0;
-    while k < used {
-        if !right_good(save, rights, segments, partitions, k) {
+    let mut p: u8 = 0;
+    while p < partitions {
+        let a = 32 * (p as usize);
+        let b = a + 32;
+        if !right_row_good(save, &rights[a..b], segments, partitions) {
             return false;
         }
-        k += 1;
+        p += 1;
     }
-    bytes_unused(rights, used)
+    bytes_unused(rights, 32 * (partitions as usize))
 }
 
-// Whether a flow line may give the byte at k.
-fn flow_good(flows: &[u8], segments: u8, k: usize) -> bool
-    ensures { λ r. ⌜ r ≡ goodFlow single (namesOf segments 0 []) k (getD (now (flows .entry)) k 0) ⌝ }
+// Whether flow lines may give the row of s.
+fn flow_row_good(row: &[u8], segments: u8, s: u8) -> bool
+    ensures { λ r. ⌜ r ≡ rowGood 1 segments (eqb s) (now (row .entry)) ⌝ }
 {
-    let byte = byte_at(flows, k);
-    if byte == 0 {
-        return true;
-    }
-    if byte != 1 {
+    if !none_over(row, 1) {
         return false;
     }
-    if (segments as usize) <= k / 32 {
+    if !bytes_unused(row, segments as usize) {
         return false;
     }
-    if (segments as usize) <= k % 32 {
-        return false;
-    }
-    k / 32 != k % 32
+    byte_at(row, s as usize) == 0
 }
 
 pub(crate) fn flows_good(flows: &[u8], segments: u8) -> bool
     requires { ⌜ (segments ≤ 32) × (length (now flows) ≡ 1024) ⌝ }
     ensures { λ r. ⌜ r ≡ eachBelow 1024 (λ k. goodFlow single (namesOf segments 0 []) k (getD (now (flows .entry)) k 0)) ⌝ }
 {
-    let used = 32 * (segments as usize);
-    let mut k = 0;
-    while k < used {
-        if !flow_good(flows, segments, k) {
+    let mut s: u8 = 0;
+    while s < segments {
+        let a = 32 * (s as usize);
+        let b = a + 32;
+        if !flow_row_good(&flows[a..b], segments, s) {
             return false;
         }
-        k += 1;
+        s += 1;
     }
-    bytes_unused(flows, used)
+    bytes_unused(flows, 32 * (segments as usize))
 }

@@ -1,38 +1,64 @@
--- The loop stops at the first byte that no right line gives; the invariant: each before k is given by one.
--- Those past the counts are good where they are 0.
+-- The loop stops at the first row that no right lines give; the invariant: each before p is given by some.
+-- The bytes past the counts are good where they are 0.
 use Prim.Native.Nat.{_-_}
+use native.Mathlib.Nat.{add-sub-cancel-left}
 use native.Mathlib.Omega.{arith}
 use borrow.Author.Needs.{needs}
-use lib.ListN.{getD}
+use Rattle.policy.specs.Clash.{isSave}
 use Rattle.policy.specs.Limits.{single}
-use Rattle.policy.specs.Sound.{goodRight}
 use Rattle.validate.specs.Parts.{namesOf}
+use Rattle.validate.specs.Rows.{rowGood}
 use Rattle.validate.proofs.Laws.Loops.{Tested, test-none, test-found, test-more, test-done}
-use Rattle.validate.proofs.Laws.Past.{rights-past}
+use Rattle.validate.proofs.Laws.Rows.{rowOf}
+use Rattle.validate.proofs.Laws.Past.{rights-rows}
 use Rattle.validate.proofs.rights.rights_good.Statement.{statement}
 use Rattle.validate.proofs.rights.rights_good.Tie as tie
 
 abbrev Inv-loop : tie.InvT-loop
-Inv-loop save rights segments partitions used k₀ k =
-    Tested used (λ j. goodRight single (namesOf segments partitions save) j (getD rights j 0)) k
+Inv-loop save rights segments partitions p₀ p =
+    Tested partitions (λ r. rowGood 3 segments (isSave (namesOf segments partitions save)) (rowOf rights r)) p
 
 abbrev μ-loop : tie.MeasureT-loop
-μ-loop save rights segments partitions used k₀ k = used - k
-
-mul-used : tie.Need-mul-used Inv-loop μ-loop
-mul-used c = search needs
+μ-loop save rights segments partitions p₀ p = partitions - p
 
 loop-holds : tie.Need-loop-holds Inv-loop μ-loop
 loop-holds c = test-none _ _
 
-right-good-requires : tie.Need-right-good-requires Inv-loop μ-loop
-right-good-requires c κs = search needs
+cast-a : tie.Need-cast-a Inv-loop μ-loop
+cast-a c = search needs
+
+mul-a : tie.Need-mul-a Inv-loop μ-loop
+mul-a c = search needs
+
+add-b : tie.Need-add-b Inv-loop μ-loop
+add-b c = search needs
+
+sub-right-row-good : tie.Need-sub-right-row-good Inv-loop μ-loop
+sub-right-row-good c = search needs
+
+part-right-row-good-start : tie.Need-part-right-row-good-start Inv-loop μ-loop
+part-right-row-good-start c = search needs
+
+part-right-row-good-end : tie.Need-part-right-row-good-end Inv-loop μ-loop
+part-right-row-good-end c = omega arith
+
+right-row-good-requires : tie.Need-right-row-good-requires Inv-loop μ-loop
+right-row-good-requires c κs = search needs
 
 returns : tie.Need-returns Inv-loop μ-loop
-returns c = test-found _ _ _ _ (omega arith) (c .before .right-good .ensures) (c .if1 .taken)
+returns c =
+    let start = c .before .before .before .before .before .before .before in
+    let a = start .args in
+    rw (
+      rights-rows single (namesOf (a .segments) (a .partitions) (a .save .now)) (a .rights .now) 256 (start .pre .1) (omega arith),
+      ← test-found _ _ _ _
+          (c .before .before .before .loop-test .taken)
+          (rw add-sub-cancel-left at (c .before .right-row-good .ensures))
+          (c .if1 .taken),
+    )
 
-add-k : tie.Need-add-k Inv-loop μ-loop
-add-k c = search needs
+add-p : tie.Need-add-p Inv-loop μ-loop
+add-p c = search needs
 
 loop-less : tie.Need-loop-less Inv-loop μ-loop
 loop-less c = search needs
@@ -40,10 +66,13 @@ loop-less c = search needs
 loop-again : tie.Need-loop-again Inv-loop μ-loop
 loop-again c =
     test-more _ _ _ _
-    (c .before .before .before .loop .inv)
-    (c .before .before .loop-test .taken)
-    (c .before .right-good .ensures)
+    (c .before .before .before .before .loop .inv)
+    (c .before .before .before .loop-test .taken)
+    (rw add-sub-cancel-left at (c .before .right-row-good .ensures))
     (c .if1 .left)
+
+mul-bytes-unused : tie.Need-mul-bytes-unused Inv-loop μ-loop
+mul-bytes-unused c = search needs
 
 bytes-unused-requires : tie.Need-bytes-unused-requires Inv-loop μ-loop
 bytes-unused-requires c κs = search needs
@@ -53,7 +82,7 @@ returns-2 c =
     let start = c .before .before .before .before .before in
     let a = start .args in
     rw (
-      rights-past single (namesOf (a .segments) (a .partitions) (a .save .now)) (a .rights .now) 256 (start .pre .1) (omega arith),
+      rights-rows single (namesOf (a .segments) (a .partitions) (a .save .now)) (a .rights .now) 256 (start .pre .1) (omega arith),
       ← test-done _ _ _ (c .before .before .loop .inv) (c .before .loop-test .left),
     ) (c .bytes-unused .ensures)
 
@@ -63,12 +92,18 @@ rights-good-spec =
     (tie.spec
     Inv-loop
     μ-loop
-    mul-used
     loop-holds
-    right-good-requires
+    cast-a
+    mul-a
+    add-b
+    sub-right-row-good
+    part-right-row-good-start
+    part-right-row-good-end
+    right-row-good-requires
     returns
-    add-k
+    add-p
     loop-less
     loop-again
+    mul-bytes-unused
     bytes-unused-requires
     returns-2)
