@@ -17,37 +17,36 @@ use crate::layout::WAITING;
 use crate::step::get_counter;
 use crate::step::in_handler;
 ghost use mathlib.Core.Path.{_≡_};
-ghost use mathlib.Core.Bool.{not, _&&_, _||_};
+ghost use mathlib.Core.Bool.{_||_};
 ghost use Prim.Native.Nat.{_-_, _<_, _^_};
 ghost use lib.Bits.{bitAnd};
 ghost use lib.Dec.{eqb};
 ghost use Rattle.machine.specs.Save.{due};
 ghost use Rattle.machine.specs.Local.{takesInterrupt, lowest, entered, interrupted};
 
-// Outside a handler, with a line that is pended and enabled, ready or waiting.
-fn is_taken(inside: bool, lines: u8, state: u8) -> bool
-    ensures { λ r. ⌜ r ≡ (not inside && (not (eqb lines 0) && (eqb state 0 || eqb state 3))) ⌝ }
+// Ready or waiting.
+fn is_awake(state: u8) -> bool
+    ensures { λ r. ⌜ r ≡ (eqb state 0 || eqb state 3) ⌝ }
 {
-    if inside {
-        return false;
-    }
-    if lines == 0 {
-        return false;
-    }
     if state == READY {
         return true;
     }
     state == WAITING
 }
 
+// With a line that is pended and enabled, outside a handler, ready or waiting. The lines come first: most ticks have none,
+// and are asked no more.
 pub fn takes_interrupt(s: &[u8]) -> bool
     ensures { λ r. ⌜ r ≡ takesInterrupt (now (s .entry)) ⌝ }
 {
-    is_taken(
-        in_handler(s),
-        byte_at(s, PENDED) & byte_at(s, ENABLED),
-        byte_at(s, STATE),
-    )
+    let lines = byte_at(s, PENDED) & byte_at(s, ENABLED);
+    if lines == 0 {
+        return false;
+    }
+    if in_handler(s) {
+        return false;
+    }
+    is_awake(byte_at(s, STATE))
 }
 
 struct Taken {

@@ -160,6 +160,8 @@ impl<K: Kernel> Timed for K {
 struct Case {
     name: &'static str,
     unit: &'static str,
+    /// The most that the ratio should be.
+    aim: f64,
     time: fn(&dyn Timed) -> f64,
 }
 
@@ -167,6 +169,7 @@ const CASES: [Case; 10] = [
     Case {
         name: "tick, compute loop",
         unit: "ns",
+        aim: 1.0,
         time: |kernel| {
             let (policy, memory) = programs(&COMPUTE, &COMPUTE);
             kernel.run(&policy, &memory, 10_000, 4)
@@ -175,6 +178,7 @@ const CASES: [Case; 10] = [
     Case {
         name: "tick, load-and-store copy loop",
         unit: "ns",
+        aim: 1.0,
         time: |kernel| {
             let (policy, memory) = programs(&copy(5, 4), &copy(4, 5));
             kernel.run(&policy, &memory, 10_000, 4)
@@ -183,18 +187,19 @@ const CASES: [Case; 10] = [
     Case {
         name: "tick, idle (one halted, one waiting)",
         unit: "ns",
+        aim: 1.0,
         time: |kernel| {
             let (policy, memory) = programs(&[[0, 0, 0, 0]], &[[10, 0, 0, 0]]);
             kernel.run(&policy, &memory, 10_000, 4)
         },
     },
-    Case { name: "tick, interrupts (taken and back in turn)", unit: "ns", time: |kernel| kernel.interrupts(200) },
-    Case { name: "Run of 0 ticks", unit: "ns", time: |kernel| kernel.run(&policy_of(DEMONSTRATION), &[0; MEMORY], 0, 300) },
-    Case { name: "Pend", unit: "ns", time: |kernel| kernel.pend(&policy_of(DEMONSTRATION), 300) },
-    Case { name: "Start", unit: "ns", time: |kernel| kernel.start(&policy_of(DEMONSTRATION), 300) },
-    Case { name: "soundness alone, largest record", unit: "ns", time: |kernel| kernel.sound(&longest(), 50) },
-    Case { name: "Read, demonstration (225 bytes)", unit: "µs", time: |kernel| kernel.read(DEMONSTRATION, 200) },
-    Case { name: "Read, longest accepted text (14,143 bytes)", unit: "µs", time: |kernel| kernel.read(&text_of(&longest()), 10) },
+    Case { name: "tick, interrupts (taken and back in turn)", unit: "ns", aim: 1.0, time: |kernel| kernel.interrupts(200) },
+    Case { name: "Run of 0 ticks", unit: "ns", aim: 2.0, time: |kernel| kernel.run(&policy_of(DEMONSTRATION), &[0; MEMORY], 0, 300) },
+    Case { name: "Pend", unit: "ns", aim: 2.0, time: |kernel| kernel.pend(&policy_of(DEMONSTRATION), 300) },
+    Case { name: "Start", unit: "ns", aim: 2.0, time: |kernel| kernel.start(&policy_of(DEMONSTRATION), 300) },
+    Case { name: "soundness alone, largest record", unit: "ns", aim: 2.0, time: |kernel| kernel.sound(&longest(), 50) },
+    Case { name: "Read, demonstration (225 bytes)", unit: "µs", aim: 2.0, time: |kernel| kernel.read(DEMONSTRATION, 200) },
+    Case { name: "Read, longest accepted text (14,143 bytes)", unit: "µs", aim: 2.0, time: |kernel| kernel.read(&text_of(&longest()), 10) },
 ];
 
 fn main() {
@@ -215,17 +220,18 @@ fn main() {
         }
     }
     let name = Proved.name();
-    println!("| what | unit | {name} min | {name} median | tuned min | tuned median | ratio of min | ratio of median |");
-    println!("|---|---|---:|---:|---:|---:|---:|---:|");
+    println!("| what | unit | {name} min | {name} median | tuned min | tuned median | ratio of min | ratio of median | aim |");
+    println!("|---|---|---:|---:|---:|---:|---:|---:|---:|");
     for (case, times) in CASES.iter().zip(&mut times) {
         let [proved, tuned] = times;
         let ((min, median), (tuned_min, tuned_median)) = (min_and_median(proved), min_and_median(tuned));
         println!(
-            "| {} | {} | {min:.2} | {median:.2} | {tuned_min:.2} | {tuned_median:.2} | {:.2} | {:.2} |",
+            "| {} | {} | {min:.2} | {median:.2} | {tuned_min:.2} | {tuned_median:.2} | {:.2} | {:.2} | {:.1} |",
             case.name,
             case.unit,
             min / tuned_min,
-            median / tuned_median
+            median / tuned_median,
+            case.aim
         );
     }
     println!();
