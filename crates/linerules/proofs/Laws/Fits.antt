@@ -4,10 +4,9 @@ use mathlib.Core.Path.{_≡_}
 use mathlib.Core.Bool.{Bool, false, _||_}
 use native.Mathlib.Omega.{arith}
 use borrow.Author.Tests.{ltb-false, leb-false, eqb-true, not-false}
-use lib.Dec.{eqb, leb, ltb}
+use lib.Dec.{leb, ltb}
 use Rattle.text.specs.declared.line.Line.the-variants.{Segment, Partition, Right, Flow, Slot}
 use Rattle.policy.specs.declared.record.Policy.{Policy}
-use Rattle.policy.specs.Limits.{single}
 use Rattle.policy.specs.Range.{outside, outOfRange}
 use Rattle.policy.proofs.Laws.Bools.{or-left, or-right}
 use Rattle.linerules.specs.Parts.{Fits}
