@@ -36,8 +36,8 @@ pub extern "C" fn sk_read(text: &[u8]) -> ReadResult
     let refusal = reading.refusal;
     let policy = reading.policy;
     ReadResult {
-        number: linerules::number_of(refusal),
-        line: linerules::line_number_of(refusal),
+        number: reader::number_of(refusal),
+        line: reader::line_number_of(refusal),
         policy,
     }
 }

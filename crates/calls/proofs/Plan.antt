@@ -12,8 +12,8 @@ use Rattle.policy.specs.Record.{viewOf}
 use Rattle.machine.specs.Machine.{State, next}
 use Rattle.calls.specs.declared.Outcome.the-variants.{Done}
 use Rattle.calls.specs.Outcomes.{isDone}
-use Rattle.calls.specs.Pend.{pended, pendOutcome, afterPend}
-use Rattle.calls.specs.Run.{stateOf, ticked, runOutcome, afterRun}
+use Rattle.calls.specs.Pend.{withLine, pendOutcome, afterPend}
+use Rattle.calls.specs.Run.{stateOf, afterTicks, runOutcome, afterRun}
 use Rattle.calls.specs.Lists.{Call, pend, run, step, exec, did, ticks, PendedAfter}
 use Rattle.calls.proofs.Laws.Outcomes.{is-done}
 
@@ -63,7 +63,7 @@ later-cases (suc n) (suc k) f h = let r = later-cases n k f h in (r .0, suc-add 
 module _ (v : View) where
   unfoldable pub pendAll : List Pend → List ℕ → List ℕ
   pendAll [] m = m
-  pendAll (x ∷ g) m = pendAll g (pended v (x .0) (x .1) m)
+  pendAll (x ∷ g) m = pendAll g (withLine v (x .0) (x .1) m)
 
   -- The state after the Pends of a gap.
   abbrev pub filled : List Pend → State → State
@@ -75,20 +75,20 @@ module _ (v : View) where
   plan (suc n) f x = plan n (λ k. f (suc k)) (next v (filled (f 0) x))
 
   plan-ahead : (b : Bool) (n : ℕ) (z : Pend) (f : Gaps) (x : State)
-      → plan n (ahead b z f) x ≡ plan n f (stateOf (cond b (pended v (z .0) (z .1) (x .memory)) (x .memory)) (x .place))
+      → plan n (ahead b z f) x ≡ plan n f (stateOf (cond b (withLine v (z .0) (z .1) (x .memory)) (x .memory)) (x .place))
   unfolding plan ahead pendAll
   plan-ahead true zero z f x = refl
   plan-ahead true (suc n) z f x = refl
   plan-ahead false zero z f x = refl
   plan-ahead false (suc n) z f x = refl
 
-  plan-later : (n k : ℕ) (f : Gaps) (x : State) → plan (n + k) (later n f) x ≡ plan k f (ticked v n x)
-  unfolding plan later pendAll ticked
+  plan-later : (n k : ℕ) (f : Gaps) (x : State) → plan (n + k) (later n f) x ≡ plan k f (afterTicks v n x)
+  unfolding plan later pendAll afterTicks
   plan-later zero k f x = rw zero-add
   plan-later (suc n) k f x = rw suc-add (plan-later n k f (next v x))
 
-  plan-run : (b : Bool) (n k : ℕ) (f : Gaps) (x : State) → plan (cond b n 0 + k) (later (cond b n 0) f) x ≡ plan k f (cond b (ticked v n x) x)
-  unfolding ticked
+  plan-run : (b : Bool) (n k : ℕ) (f : Gaps) (x : State) → plan (cond b n 0 + k) (later (cond b n 0) f) x ≡ plan k f (cond b (afterTicks v n x) x)
+  unfolding afterTicks
   plan-run true n k f x = plan-later n k f x
   plan-run false n k f x = plan-later 0 k f x
 

@@ -18,7 +18,7 @@ use Rattle.machine.specs.Place.{isPlace, moved}
 use Rattle.machine.specs.Machine.{State, Stands, select, next}
 use Rattle.machine.proofs.OneTick.{separation, next-stands}
 use Rattle.calls.specs.Outcomes.{isDone}
-use Rattle.calls.specs.Run.{stateOf, ticked, runOutcome, afterRun}
+use Rattle.calls.specs.Run.{stateOf, afterTicks, runOutcome, afterRun}
 use Rattle.calls.specs.Lists.{Call, pend, run, step, exec, did, ticks, SamePended, Source}
 use Rattle.calls.specs.Separation.{OneTick, EndAlike, WholeRuns}
 use Rattle.calls.proofs.Laws.Outcomes.{is-done, pend-partition, run-place}
@@ -101,7 +101,7 @@ module _ (policy : Policy) where
   ticks-placed (pend p line ∷ cs) x h = ticks-placed cs (step policy (pend p line) x) (omega arith)
   ticks-placed (run n ∷ cs) x h = go (isDone (runOutcome policy x n)) refl h (λ i. ticks-placed cs x i)
     where
-      go : (b : Bool) → isDone (runOutcome policy x n) ≡ b → 0 < cond b n 0 + ticks policy cs (cond b (ticked (viewOf policy) n x) x)
+      go : (b : Bool) → isDone (runOutcome policy x n) ≡ b → 0 < cond b n 0 + ticks policy cs (cond b (afterTicks (viewOf policy) n x) x)
           → (0 < ticks policy cs x → isPlace (viewOf policy) (x .place) ≡ true) → isPlace (viewOf policy) (x .place) ≡ true
       go true e i below = run-place policy x n (is-done (runOutcome policy x n) e)
       go false e i below = below (omega arith)

@@ -13,13 +13,17 @@ use Rattle.calls.specs.declared.Outcome.{Outcome}
 use Rattle.calls.specs.declared.Outcome.the-variants.{WrongMemory, Unsound, NoPartition, NoLine}
 use Rattle.calls.specs.Outcomes.{firstOf, wrongMemory, unsound, acts}
 
+-- Lines are numbered from 0; 12: "line above 7"
+abbrev pub lastLine : ℕ
+lastLine = 7
+
 unfoldable pub pendOutcome : Policy → List ℕ → ℕ → ℕ → Outcome
 pendOutcome policy memory partition line =
     firstOf
     (record { applies = wrongMemory single memory; outcome = WrongMemory }
     ∷ record { applies = unsound policy; outcome = Unsound }
     ∷ record { applies = leb (policy .partitions) partition; outcome = NoPartition }
-    ∷ record { applies = ltb 7 line; outcome = NoLine }
+    ∷ record { applies = ltb lastLine line; outcome = NoLine }
     ∷ [])
 
 -- Where the pended lines of a partition stand.
@@ -27,11 +31,11 @@ abbrev pub pendedAt : View → ℕ → ℕ
 pendedAt v partition = v .base (v .save partition) + layout .pended
 
 -- "pended lines 36 .., one bit a line, line 0 the lowest"
-unfoldable pub pended : View → ℕ → ℕ → List ℕ → List ℕ
-pended v partition line memory =
+unfoldable pub withLine : View → ℕ → ℕ → List ℕ → List ℕ
+withLine v partition line memory =
     set memory (pendedAt v partition) (bitOr (getD memory (pendedAt v partition) 0) (2 ^ line))
 
 -- Memory after a Pend.
 unfoldable pub afterPend : Policy → List ℕ → ℕ → ℕ → List ℕ
 afterPend policy memory partition line =
-    acts (pendOutcome policy memory partition line) (pended (viewOf policy) partition line memory) memory
+    acts (pendOutcome policy memory partition line) (withLine (viewOf policy) partition line memory) memory

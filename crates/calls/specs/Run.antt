@@ -19,23 +19,27 @@ use Rattle.calls.specs.Outcomes.{firstOf, wrongMemory, unsound, acts}
 abbrev pub stateOf : List ℕ → Place → State
 stateOf memory place = record { memory = memory; place = place }
 
+-- The most ticks of a Run; 14: "n over 10,000"
+abbrev pub mostTicksOfRun : ℕ
+mostTicksOfRun = 10000
+
 unfoldable pub runOutcome : Policy → State → ℕ → Outcome
 runOutcome policy x n =
     firstOf
     (record { applies = wrongMemory single (x .memory); outcome = WrongMemory }
     ∷ record { applies = unsound policy; outcome = Unsound }
     ∷ record { applies = not (isPlace (viewOf policy) (x .place)); outcome = NoPlace }
-    ∷ record { applies = ltb 10000 n; outcome = TooManyTicks }
+    ∷ record { applies = ltb mostTicksOfRun n; outcome = TooManyTicks }
     ∷ [])
 
 -- n ticks, one after another.
-unfoldable pub ticked : View → ℕ → State → State
-ticked v zero x = x
-ticked v (suc n) x = ticked v n (next v x)
+unfoldable pub afterTicks : View → ℕ → State → State
+afterTicks v zero x = x
+afterTicks v (suc n) x = afterTicks v n (next v x)
 
 -- Memory and place after a Run. "A refused Run returns the place it was given".
 unfoldable pub afterRun : Policy → State → ℕ → State
-afterRun policy x n = acts (runOutcome policy x n) (ticked (viewOf policy) n x) x
+afterRun policy x n = acts (runOutcome policy x n) (afterTicks (viewOf policy) n x) x
 
 unfoldable pub runAnswer : Policy → State → ℕ → Placed
 runAnswer policy x n = record { outcome = runOutcome policy x n; place = afterRun policy x n .place }

@@ -13,17 +13,17 @@ use Rattle.policy.specs.Range.{outOfRange}
 use Rattle.policy.specs.Read.{lineRefusal, wholeRefusal, readLines, readOf}
 use Rattle.policy.specs.Sound.{goodSegment, goodPartition, goodSlot, goodRight, goodFlow, allZero, isShaped, countsFit, unusedZero, linesHold, soundOf}
 use Rattle.policy.specs.Whole.{incomplete, codeUnreadable, flowMissing}
-use Rattle.machine.specs.Bytes.{half, word, withHalf, withWord}
-use Rattle.machine.specs.Decode.{operandFits, operandsFit, kindOf, decodeOf, fetched}
+use Rattle.bytes.specs.Numbers.{half, word, withHalf, withWord}
+use Rattle.machine.specs.Decode.{operandFits, operandsFit, instructionOf, decodeOf, fetched}
 use Rattle.machine.specs.Faults.{faults}
-use Rattle.machine.specs.Local.{advanced, resulted, halts, setsRegister, adds, subtracts, ands, xors, shifts, jumps, waits, listens, comesBack, takesInterrupt, entered, interrupted, isReady}
+use Rattle.machine.specs.Local.{advanced, resulted, jumps, waits, comesBack, actsOn, takesInterrupt, entered, interrupted, isReady}
 use Rattle.machine.specs.Machine.{next}
 use Rattle.machine.specs.Place.{isPlace, moved}
-use Rattle.machine.specs.Tick.{reaches, looks, loads, storesByte, acts, obeys, steps, effect, ticked}
-use Rattle.calls.specs.Run.{runOutcome, ticked as calls-ticked, afterRun, runAnswer}
+use Rattle.machine.specs.Tick.{reaches, looks, loads, storesByte, executes, obeys, steps, effect, tickOf}
+use Rattle.calls.specs.Run.{runOutcome, afterTicks, afterRun, runAnswer}
 use Rattle.calls.specs.Start.{startOutcome, cleared, afterStart, startAnswer}
 use Rattle.cases.specs.Cases.{allHold, cases, holds}
 
 pub claim : T (allHold cases)
-unfolding holds same cut segmentLine partitionLine rightLine flowLine slotLine wordOf lineOf linesOfPieces linesOf allDigits isNumber valueFrom number letters someBelow eachBelow clashes added outOfOrder outOfRange lineRefusal wholeRefusal readLines readOf goodSegment goodPartition goodSlot goodRight goodFlow allZero isShaped countsFit unusedZero linesHold soundOf incomplete codeUnreadable flowMissing half word withHalf withWord operandFits operandsFit kindOf decodeOf fetched faults advanced resulted halts setsRegister adds subtracts ands xors shifts jumps waits listens comesBack takesInterrupt entered interrupted isReady next isPlace moved reaches looks loads storesByte acts obeys steps effect ticked runOutcome calls-ticked afterRun runAnswer startOutcome cleared afterStart startAnswer trailingZeros
+unfolding holds same cut segmentLine partitionLine rightLine flowLine slotLine wordOf lineOf linesOfPieces linesOf allDigits isNumber valueFrom number letters someBelow eachBelow clashes added outOfOrder outOfRange lineRefusal wholeRefusal readLines readOf goodSegment goodPartition goodSlot goodRight goodFlow allZero isShaped countsFit unusedZero linesHold soundOf incomplete codeUnreadable flowMissing half word withHalf withWord operandFits operandsFit instructionOf decodeOf fetched faults advanced resulted jumps waits comesBack actsOn takesInterrupt entered interrupted isReady next isPlace moved reaches looks loads storesByte executes obeys steps effect tickOf runOutcome afterTicks afterRun runAnswer startOutcome cleared afterStart startAnswer trailingZeros
 claim = tt

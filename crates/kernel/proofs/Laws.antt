@@ -1,4 +1,2 @@
-pub mod Saves
 pub mod Ticks
-pub mod Stretch
 pub mod Reached

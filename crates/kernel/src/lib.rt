@@ -3,10 +3,10 @@
 mod answer;
 mod clear;
 mod line;
+mod running;
 mod save;
-mod schedule;
 
 pub use answer::outcome_number;
 pub use clear::start;
 pub use line::pend;
-pub use schedule::run;
+pub use running::run;

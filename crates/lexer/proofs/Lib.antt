@@ -1,3 +1,2 @@
--- Laws of the definitions, one subject a file; and what the proofs by hand of the readers share.
-pub mod Laws
+-- What the proofs by hand of the readers share.
 pub mod Walk

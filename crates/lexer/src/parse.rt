@@ -2,30 +2,15 @@
 ghost use Prim.Native.Nat.{_<_, _≤_};
 ghost use mathlib.Core.Path.{_≡_};
 ghost use lib.ListN.{length};
-ghost use Rattle.lexer.specs.Cursor.{upTo, fieldsRead, lineRead};
-ghost use Rattle.lexer.specs.Said.{twoSay, threeSay, rightSays, lettersSay, numberSays, restSays, fieldsSay};
+ghost use Rattle.text.specs.Places.{upTo};
+ghost use Rattle.text.specs.Readers.{fieldsRead, lineRead};
+ghost use Rattle.text.specs.Said.{twoSay, threeSay, restSays, fieldsSay};
 use text::Cursor;
+use text::FieldsRead;
 use text::Kind;
 use text::Line;
+use text::LineRead;
 use text::Number;
-
-// What stands in a line, by the readers' order: every line has the record word and two numbers, then letters, a number or
-// nothing, and the line end. `next` is where the last reader leaves the place.
-pub struct FieldsRead {
-    pub kind: Kind,
-    pub first: Number,
-    pub second: Number,
-    pub letters: Number,
-    pub third: Number,
-    pub ended: bool,
-    pub next: Cursor,
-}
-
-// What a line says, and where the place is left.
-pub struct LineRead {
-    pub line: Line,
-    pub next: Cursor,
-}
 
 // The place is lent to one reader after another; which of them found their field is for fields_say to judge. None
 // of them leaves the line.
@@ -84,47 +69,27 @@ fn three_say(kind: Kind, a: u32, b: u32, c: u32) -> Line
     }
 }
 
-// Two numbers and letters.
-fn right_says(kind: Kind, a: u32, b: u32, mode: u32) -> Line
-    ensures { λ r. ⌜ r ≡ rightSays kind a b mode ⌝ }
-{
-    match kind {
-        Kind::OfRight => Line::Right {
-            partition: a,
-            segment: b,
-            mode,
-        },
-        _ => Line::Bad,
-    }
-}
-
-// After the letters nothing may stand.
-fn letters_say(kind: Kind, a: u32, b: u32, mode: u32, third: Number) -> Line
-    ensures { λ r. ⌜ r ≡ lettersSay kind a b mode third ⌝ }
-{
-    match third {
-        Number::Value(_) => Line::Bad,
-        Number::Malformed => right_says(kind, a, b, mode),
-    }
-}
-
-// No letters: a third number, or nothing.
-fn number_says(kind: Kind, a: u32, b: u32, third: Number) -> Line
-    ensures { λ r. ⌜ r ≡ numberSays kind a b third ⌝ }
-{
-    match third {
-        Number::Value(c) => three_say(kind, a, b, c),
-        Number::Malformed => two_say(kind, a, b),
-    }
-}
-
-// What stands after the two numbers decides, with the record word.
+// What stands after the two numbers decides, with the record word: letters and nothing after them, a third number, or
+// nothing.
 fn rest_says(kind: Kind, a: u32, b: u32, letters: Number, third: Number) -> Line
     ensures { λ r. ⌜ r ≡ restSays kind a b letters third ⌝ }
 {
     match letters {
-        Number::Value(mode) => letters_say(kind, a, b, mode, third),
-        Number::Malformed => number_says(kind, a, b, third),
+        Number::Value(mode) => match third {
+            Number::Value(_) => Line::Bad,
+            Number::Malformed => match kind {
+                Kind::OfRight => Line::Right {
+                    partition: a,
+                    segment: b,
+                    mode,
+                },
+                _ => Line::Bad,
+            },
+        },
+        Number::Malformed => match third {
+            Number::Value(c) => three_say(kind, a, b, c),
+            Number::Malformed => two_say(kind, a, b),
+        },
     }
 }
 

@@ -2,8 +2,9 @@
 // field stands the place stays. What is read, and where the place goes, is the by-value reader's to say.
 ghost use Prim.Native.Nat.{_<_};
 ghost use mathlib.Core.Path.{_≡_};
-ghost use Rattle.lexer.specs.Cursor.{upTo, wordAt, pastWord, numberAt, pastNumber};
-ghost use Rattle.lexer.specs.Cursor.{lettersAt, pastLetters, lineEndAt, pastLineEnd};
+ghost use Rattle.text.specs.Places.{upTo};
+ghost use Rattle.text.specs.Readers.{wordAt, pastWord, numberAt, pastNumber};
+ghost use Rattle.text.specs.Readers.{lettersAt, pastLetters, lineEndAt, pastLineEnd};
 use text::Cursor;
 use text::Kind;
 use text::Number;
@@ -13,7 +14,7 @@ pub(crate) fn take_word(text: &[u8], c: &mut Cursor) -> Kind
     ensures { λ r. ⌜ (r ≡ wordAt (upTo (now (text .entry)) (now (c .entry) .at)) (now (c .entry)))
         × (now (c .exit) ≡ pastWord (upTo (now (text .entry)) (now (c .entry) .at)) (now (c .entry))) ⌝ }
 {
-    let read = crate::word::read_word(text, *c);
+    let read = fields::read_word(text, *c);
     *c = read.next;
     read.kind
 }
@@ -23,7 +24,7 @@ pub(crate) fn take_number(text: &[u8], c: &mut Cursor) -> Number
     ensures { λ r. ⌜ (r ≡ numberAt (upTo (now (text .entry)) (now (c .entry) .at)) (now (c .entry)))
         × (now (c .exit) ≡ pastNumber (upTo (now (text .entry)) (now (c .entry) .at)) (now (c .entry))) ⌝ }
 {
-    let read = crate::field::read_number(text, *c);
+    let read = fields::read_number(text, *c);
     *c = read.next;
     read.number
 }
@@ -33,7 +34,7 @@ pub(crate) fn take_letters(text: &[u8], c: &mut Cursor) -> Number
     ensures { λ r. ⌜ (r ≡ lettersAt (upTo (now (text .entry)) (now (c .entry) .at)) (now (c .entry)))
         × (now (c .exit) ≡ pastLetters (upTo (now (text .entry)) (now (c .entry) .at)) (now (c .entry))) ⌝ }
 {
-    let read = crate::field::read_letters(text, *c);
+    let read = fields::read_letters(text, *c);
     *c = read.next;
     read.number
 }
@@ -44,7 +45,7 @@ pub(crate) fn take_end(text: &[u8], c: &mut Cursor) -> bool
     ensures { λ r. ⌜ (r ≡ lineEndAt (now (text .entry)) (now (c .entry)))
         × (now (c .exit) ≡ pastLineEnd (now (text .entry)) (now (c .entry))) ⌝ }
 {
-    let read = crate::field::read_end(text, *c);
+    let read = fields::read_end(text, *c);
     *c = read.next;
     read.ended
 }

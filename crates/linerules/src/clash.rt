@@ -1,90 +1,56 @@
 // Refusal 5: "a segment overlaps an earlier one; a save segment's length isn't 44; a segment is save of two partitions,
 // or code of one and save of the same or another; a right names a save segment; a flow goes from a segment to itself".
-use crate::arrays::of_partition;
-use crate::arrays::of_segment;
+use bytes::byte_at;
+use bytes::half_at;
+use policy::SAVE_SIZE;
 use text::Line;
-ghost use Prim.Native.Nat.{_+_};
+ghost use Prim.Native.Nat.{_+_, _<_, _≤_};
 ghost use mathlib.Core.Path.{_≡_};
-ghost use mathlib.Core.Bool.{_&&_, _||_};
 ghost use mathlib.Core.List.{[]};
-ghost use lib.Dec.{eqb, ltb};
-ghost use Rattle.text.specs.declared.line.Line.the-variants.{Partition};
-ghost use Rattle.policy.specs.Below.{someBelow};
-ghost use Rattle.policy.specs.Clash.{overlaps, shares, isSave, clashes};
-ghost use Rattle.linerules.specs.Parts.{placed};
+ghost use Rattle.policy.specs.Clash.{overlapsEarlier, sharesEarlier, partitionClashes, isSave, clashes};
+ghost use Rattle.policy.specs.Limits.{single};
+ghost use Rattle.linerules.specs.Parts.{endOf, placed};
 
-// Whether two segments, each by its base and size, have a byte in common.
-fn meets(base: u32, size: u32, b: u32, z: u32) -> bool
-    ensures { λ r. ⌜ r ≡ ltb base (b + z) && ltb b (base + size) ⌝ }
-{
-    if (base as u64) < b as u64 + z as u64 {
-        return (b as u64) < base as u64 + size as u64;
-    }
-    false
-}
-
-// Whether a segment overlaps segment s.
-fn overlaps<'a>(bases: &'a [u16; 32], sizes: &'a [u16; 32], base: u32, size: u32, s: u32) -> bool
-    ensures { λ r. ⌜ r ≡ overlaps (placed 0 0 (now (bases .entry)) (now (sizes .entry)) [] []) base size s ⌝ }
-{
-    meets(base, size, of_segment(bases, s), of_segment(sizes, s))
-}
-
-fn overlaps_earlier<'a>(
+// In u32, which the compiler tests many at once.
+pub(crate) fn overlaps_earlier<'a>(
     segments: u8,
-    bases: &'a [u16; 32],
-    sizes: &'a [u16; 32],
+    bases: &'a [u16],
+    sizes: &'a [u16],
     base: u32,
     size: u32,
 ) -> bool
+    requires { ⌜ base + size < 4294967296 ⌝ }
     ensures { λ r. ⌜ r ≡
-        someBelow segments (overlaps (placed 0 0 (now (bases .entry)) (now (sizes .entry)) [] []) base size) ⌝ }
+        overlapsEarlier (placed segments 0 (now (bases .entry)) (now (sizes .entry)) [] []) base size ⌝ }
 {
-    let n = segments as u32;
-    let mut i: u32 = 0;
-    while i < n {
-        if overlaps(bases, sizes, base, size, i) {
+    let end = base + size;
+    let mut i: u8 = 0;
+    while i < segments {
+        let from = half_at(bases, i as usize) as u32;
+        let bytes = half_at(sizes, i as usize) as u32;
+        if (base < from + bytes) & (from < end) {
             return true;
         }
         i += 1;
     }
     false
-}
-
-// Whether one of two partitions has the other's save segment, as its save or its code.
-fn same_save(code: u32, save: u32, c: u32, s: u32) -> bool
-    ensures { λ r. ⌜ r ≡ eqb save s || eqb save c || eqb code s ⌝ }
-{
-    if save == s {
-        return true;
-    }
-    if save == c {
-        return true;
-    }
-    code == s
-}
-
-// Whether a partition shares a save segment with partition q.
-fn shares<'a>(codes: &'a [u8; 8], saves: &'a [u8; 8], code: u32, save: u32, q: u32) -> bool
-    ensures { λ r. ⌜ r ≡ shares (placed 0 0 [] [] (now (codes .entry)) (now (saves .entry))) code save q ⌝ }
-{
-    same_save(code, save, of_partition(codes, q), of_partition(saves, q))
 }
 
 fn shares_earlier<'a>(
     partitions: u8,
-    codes: &'a [u8; 8],
-    saves: &'a [u8; 8],
+    codes: &'a [u8],
+    saves: &'a [u8],
     code: u32,
     save: u32,
 ) -> bool
     ensures { λ r. ⌜ r ≡
-        someBelow partitions (shares (placed 0 0 [] [] (now (codes .entry)) (now (saves .entry))) code save) ⌝ }
+        sharesEarlier (placed 0 partitions [] [] (now (codes .entry)) (now (saves .entry))) code save ⌝ }
 {
-    let n = partitions as u32;
-    let mut i: u32 = 0;
-    while i < n {
-        if shares(codes, saves, code, save, i) {
+    let mut i: u8 = 0;
+    while i < partitions {
+        let c = byte_at(codes, i as usize) as u32;
+        let s = byte_at(saves, i as usize) as u32;
+        if (save == s) | (save == c) | (code == s) {
             return true;
         }
         i += 1;
@@ -92,13 +58,12 @@ fn shares_earlier<'a>(
     false
 }
 
-fn is_save<'a>(partitions: u8, saves: &'a [u8; 8], segment: u32) -> bool
+fn is_save<'a>(partitions: u8, saves: &'a [u8], segment: u32) -> bool
     ensures { λ r. ⌜ r ≡ isSave (placed 0 partitions [] [] [] (now (saves .entry))) segment ⌝ }
 {
-    let n = partitions as u32;
-    let mut i: u32 = 0;
-    while i < n {
-        if segment == of_partition(saves, i) {
+    let mut i: u8 = 0;
+    while i < partitions {
+        if segment == byte_at(saves, i as usize) as u32 {
             return true;
         }
         i += 1;
@@ -106,38 +71,35 @@ fn is_save<'a>(partitions: u8, saves: &'a [u8; 8], segment: u32) -> bool
     false
 }
 
-fn partition_clashes<'a>(
+pub(crate) fn partition_clashes<'a>(
     partitions: u8,
-    sizes: &'a [u16; 32],
-    codes: &'a [u8; 8],
-    saves: &'a [u8; 8],
+    sizes: &'a [u16],
+    codes: &'a [u8],
+    saves: &'a [u8],
     code: u32,
     save: u32,
 ) -> bool
     ensures { λ r. ⌜ r ≡
-        clashes
+        partitionClashes
         (placed 0 partitions [] (now (sizes .entry)) (now (codes .entry)) (now (saves .entry)))
-        (Partition 0 code save) ⌝ }
+        code save ⌝ }
 {
-    let bytes = of_segment(sizes, save);
-    if bytes != 44 {
-        return true;
-    }
-    if code == save {
-        return true;
-    }
-    shares_earlier(partitions, codes, saves, code, save)
+    let bytes = half_at(sizes, save as usize) as usize;
+    let shared = shares_earlier(partitions, codes, saves, code, save);
+    (bytes != SAVE_SIZE) | (code == save) | shared
 }
 
+// For a line that rule 4 lets pass.
 pub(crate) fn clashes<'a>(
     segments: u8,
     partitions: u8,
-    bases: &'a [u16; 32],
-    sizes: &'a [u16; 32],
-    codes: &'a [u8; 8],
-    saves: &'a [u8; 8],
+    bases: &'a [u16],
+    sizes: &'a [u16],
+    codes: &'a [u8],
+    saves: &'a [u8],
     line: Line,
 ) -> bool
+    requires { ⌜ endOf line ≤ single .memory ⌝ }
     ensures { λ r. ⌜ r ≡
         clashes
         (placed

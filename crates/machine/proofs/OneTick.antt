@@ -17,7 +17,7 @@ use Rattle.policy.specs.Access.{readable, writable}
 use Rattle.policy.specs.Chain.{FlowLine}
 use Rattle.policy.specs.Lawful.{Lawful}
 use Rattle.machine.specs.Bytes.{part, withPart}
-use Rattle.machine.specs.Tick.{Seat, Sees, Effect, none, saves, stores, mayLoad, mayStore, looks, sees, effect, applied, ticked}
+use Rattle.machine.specs.Tick.{Seat, Sees, Effect, none, saves, stores, mayLoad, mayStore, looks, sees, effect, applied, tickOf}
 use Rattle.machine.specs.Machine.{State, Segs, Dia, seat, select, current, next, Stands}
 use Rattle.machine.proofs.Laws.Parts.{part-sets, part-sets-other, getD-sets-other, with-sets}
 use Rattle.machine.proofs.Laws.Tests.{reaches-there, reaches-given}
@@ -45,9 +45,6 @@ either-right true b e = refl
 either-right false b e = e
 
 module _ (v : View) where
-  abbrev bytesIn : ℕ → List ℕ → List ℕ
-  bytesIn s m = part m (v .base s) (v .size s)
-
   unfoldable pub patched : List Patch → List ℕ → List ℕ
   patched [] m = m
   patched (x ∷ xs) m = patched xs (sets m (v .base (x .seg) + x .at) (x .bytes))
@@ -177,10 +174,10 @@ module _ (limits : Limits) (v : View) (W : Lawful limits v) where
     law-B m l = touches-allowed (done m) (effect-touches (seat v p) (v .size (v .code p)) (seen m) (saved-length m l))
 
     abbrev after : List ℕ → List ℕ
-    after m = ticked (seat v p) (v .code p) (v .save p) m
+    after m = tickOf (seat v p) (v .code p) (v .save p) m
 
     after-patched : (m : List ℕ) → length m ≡ limits .memory → after m ≡ patched v (patches (v .save p) (done m)) m
-    unfolding ticked
+    unfolding tickOf
     after-patched m l = applied-patched (done m) m l (effect-touches (seat v p) (v .size (v .code p)) (seen m) (saved-length m l))
 
     pub after-length : (m : List ℕ) → length m ≡ limits .memory → length (after m) ≡ limits .memory

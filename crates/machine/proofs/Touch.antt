@@ -14,12 +14,12 @@ use Rattle.machine.specs.declared.Decoded.{Decoded}
 use Rattle.machine.specs.declared.Decoded.the-variants.{Runs, Bad}
 use Rattle.machine.specs.declared.Fault.{Fault}
 use Rattle.machine.specs.declared.Fault.the-variants.{CounterOver, BadInstruction, NoRight, OffsetOver, WrongHandler}
-use Rattle.machine.specs.Bytes.{half, withHalf, withWord}
+use Rattle.bytes.specs.Numbers.{half, withHalf, withWord}
 use Rattle.machine.specs.Save.{register, counter, inHandler}
 use Rattle.machine.specs.Faults.{faults}
 use Rattle.machine.specs.Decode.{fetched}
-use Rattle.machine.specs.Local.{advanced, resulted, halts, setsRegister, adds, subtracts, ands, xors, shifts, jumps, waits, listens, comesBack, takesInterrupt, entered, interrupted, isReady}
-use Rattle.machine.specs.Tick.{Seat, Sees, Effect, none, saves, stores, mayLoad, mayStore, loads, storesByte, acts, obeys, steps, effect}
+use Rattle.machine.specs.Local.{advanced, resulted, jumps, waits, comesBack, actsOn, takesInterrupt, entered, interrupted, isReady}
+use Rattle.machine.specs.Tick.{Seat, Sees, Effect, none, saves, stores, mayLoad, mayStore, loads, storesByte, executes, obeys, steps, effect}
 use Rattle.machine.proofs.Laws.Tests.{cond-both}
 
 abbrev Long : List ℕ → Type 0
@@ -71,30 +71,46 @@ module _ (S : Seat) where
       (length-faults s OffsetOver ∙ h))
       (length-faults s NoRight ∙ h)
 
-  acts-touches : (s : List ℕ) (look : ℕ → List ℕ) (i : Instr) → Long s → Touches S (acts S s look i)
-  unfolding acts halts setsRegister adds subtracts ands xors shifts jumps waits listens comesBack
-  acts-touches s look Halt h = length-put s 34 1 ∙ h
-  acts-touches s look (Set a n) h = length-resulted s a n ∙ h
-  acts-touches s look (Add a b c) h = length-resulted s a _ ∙ h
-  acts-touches s look (Sub a b c) h = length-resulted s a _ ∙ h
-  acts-touches s look (And a b c) h = length-resulted s a _ ∙ h
-  acts-touches s look (Xor a b c) h = length-resulted s a _ ∙ h
-  acts-touches s look (Shift a b c) h = length-resulted s a _ ∙ h
-  acts-touches s look (Load a b c) h = loads-long s look a b c h
-  acts-touches s look (Store a b c) h = stores-touches s a b c h
-  acts-touches s look (Jump a n) h =
+  acts-long : (s : List ℕ) (i : Instr) → Long s → Long (actsOn s i)
+  unfolding actsOn jumps waits comesBack
+  acts-long s Halt h = length-put s 34 1 ∙ h
+  acts-long s (Set a n) h = length-resulted s a n ∙ h
+  acts-long s (Add a b c) h = length-resulted s a _ ∙ h
+  acts-long s (Sub a b c) h = length-resulted s a _ ∙ h
+  acts-long s (And a b c) h = length-resulted s a _ ∙ h
+  acts-long s (Xor a b c) h = length-resulted s a _ ∙ h
+  acts-long s (Shift a b c) h = length-resulted s a _ ∙ h
+  acts-long s (Load a b c) h = h
+  acts-long s (Store a b c) h = h
+  acts-long s (Jump a n) h =
       cond-both Long (eqb (register s a) 0) (λ _. length-advanced s ∙ h) (length-half s 32 n ∙ h)
-  acts-touches s look Wait h =
+  acts-long s Wait h =
       cond-both Long (inHandler s) (λ _. length-faults s WrongHandler ∙ h) (length-put (advanced s) 34 3 ∙ length-advanced s ∙ h)
-  acts-touches s look (Listen a n) h = length-advanced _ ∙ length-half _ 40 n ∙ length-put s 37 a ∙ h
-  acts-touches s look Back h =
+  acts-long s (Listen a n) h = length-advanced _ ∙ length-half _ 40 n ∙ length-put s 37 a ∙ h
+  acts-long s Back h =
       cond-both Long (inHandler s)
       (λ _. length-put (withHalf s 32 (half s 38)) 42 0 ∙ length-half s 32 (half s 38) ∙ h)
       (length-faults s WrongHandler ∙ h)
 
+  executes-touches : (s : List ℕ) (look : ℕ → List ℕ) (i : Instr) → Long s → Touches S (executes S s look i)
+  unfolding executes
+  executes-touches s look Halt h = acts-long s Halt h
+  executes-touches s look (Set a n) h = acts-long s (Set a n) h
+  executes-touches s look (Add a b c) h = acts-long s (Add a b c) h
+  executes-touches s look (Sub a b c) h = acts-long s (Sub a b c) h
+  executes-touches s look (And a b c) h = acts-long s (And a b c) h
+  executes-touches s look (Xor a b c) h = acts-long s (Xor a b c) h
+  executes-touches s look (Shift a b c) h = acts-long s (Shift a b c) h
+  executes-touches s look (Load a b c) h = loads-long s look a b c h
+  executes-touches s look (Store a b c) h = stores-touches s a b c h
+  executes-touches s look (Jump a n) h = acts-long s (Jump a n) h
+  executes-touches s look Wait h = acts-long s Wait h
+  executes-touches s look (Listen a n) h = acts-long s (Listen a n) h
+  executes-touches s look Back h = acts-long s Back h
+
   obeys-touches : (s : List ℕ) (look : ℕ → List ℕ) (d : Decoded) → Long s → Touches S (obeys S s look d)
   unfolding obeys
-  obeys-touches s look (Runs i) h = acts-touches s look i h
+  obeys-touches s look (Runs i) h = executes-touches s look i h
   obeys-touches s look Bad h = length-faults s BadInstruction ∙ h
 
   pub effect-touches : (codeSize : ℕ) (x : Sees) → Long (x .saved) → Touches S (effect S codeSize x)

@@ -6,26 +6,9 @@ use mathlib.Core.List.{List, [], _∷_}
 use lib.Bits.{bitAnd}
 use lib.ListN.{getD}
 use lib.Dec.{ltb, eqb}
-use Rattle.machine.specs.declared.Instr.{Instr}
 use Rattle.machine.specs.declared.Instr.the-variants.{Halt, Set, Add, Sub, And, Xor, Shift, Load, Store, Jump, Wait, Listen, Back}
 use Rattle.machine.specs.declared.Decoded.{Decoded}
 use Rattle.machine.specs.declared.Decoded.the-variants.{Runs, Bad}
-
--- The opcode of each kind.
-abbrev pub opcodeOf : Instr → ℕ
-opcodeOf Halt = 0
-opcodeOf (Set a n) = 1
-opcodeOf (Add a b c) = 2
-opcodeOf (Sub a b c) = 3
-opcodeOf (And a b c) = 4
-opcodeOf (Xor a b c) = 5
-opcodeOf (Shift a b c) = 6
-opcodeOf (Load a b c) = 7
-opcodeOf (Store a b c) = 8
-opcodeOf (Jump a n) = 9
-opcodeOf Wait = 10
-opcodeOf (Listen a n) = 11
-opcodeOf Back = 12
 
 -- The table's column "registers", by opcode: 1 for a, 2 for b, 4 for c.
 abbrev pub registerMasks : List ℕ
@@ -39,9 +22,9 @@ unfoldable pub operandsFit : ℕ → ℕ → ℕ → ℕ → Bool
 operandsFit mask a b c =
     operandFits (bitAnd mask 1) a && (operandFits (bitAnd mask 2) b && operandFits (bitAnd mask 4) c)
 
--- The kind of an opcode, with the operands that it has. "Every opcode above 12 is fault 2."
-unfoldable pub kindOf : ℕ → ℕ → ℕ → ℕ → Decoded
-kindOf op a b c =
+-- The instruction of an opcode, with the operands that it has. "Every opcode above 12 is fault 2."
+unfoldable pub instructionOf : ℕ → ℕ → ℕ → ℕ → Decoded
+instructionOf op a b c =
     cond (ltb 12 op) Bad
     (cond (eqb op 0) (Runs Halt)
     (cond (eqb op 1) (Runs (Set a (b + 256 * c)))
@@ -59,7 +42,7 @@ kindOf op a b c =
 
 -- Four bytes: an instruction, or a bad opcode or register. Past the table no operand must be a register.
 unfoldable pub decodeOf : ℕ → ℕ → ℕ → ℕ → Decoded
-decodeOf op a b c = cond (operandsFit (getD registerMasks op 0) a b c) (kindOf op a b c) Bad
+decodeOf op a b c = cond (operandsFit (getD registerMasks op 0) a b c) (instructionOf op a b c) Bad
 
 -- The instruction at a place of the code.
 unfoldable pub fetched : List ℕ → ℕ → Decoded

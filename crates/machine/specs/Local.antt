@@ -6,8 +6,10 @@ use lib.Bits.{bitAnd, bitXor}
 use lib.Count.{trailingZeros}
 use lib.ListN.{getD, set}
 use lib.Dec.{eqb}
+use Rattle.machine.specs.declared.Instr.{Instr}
+use Rattle.machine.specs.declared.Instr.the-variants.{Halt, Set, Add, Sub, And, Xor, Shift, Load, Store, Jump, Wait, Listen, Back}
 use Rattle.machine.specs.declared.Fault.the-variants.{WrongHandler}
-use Rattle.machine.specs.Bytes.{half, word, withHalf, withWord}
+use Rattle.bytes.specs.Numbers.{half, word, withHalf, withWord}
 use Rattle.machine.specs.Layout.{layout, ready, halted, waiting}
 use Rattle.machine.specs.Save.{register, withRegister, counter, withCounter, state, withState, pended, enabled, inHandler, due}
 use Rattle.machine.specs.Faults.{faults}
@@ -20,32 +22,6 @@ advanced save = withCounter save (counter save + 4)
 unfoldable pub resulted : List ℕ → ℕ → ℕ → List ℕ
 resulted save a n = advanced (withRegister save a n)
 
--- 0 halt: "state 1, counter stays"
-unfoldable pub halts : List ℕ → List ℕ
-halts save = withState save halted
-
--- 1 set: "ra = n"
-unfoldable pub setsRegister : List ℕ → ℕ → ℕ → List ℕ
-setsRegister save a n = resulted save a n
-
--- 2 add, 3 sub: "ra = rb + rc for 2, rb − rc for 3, modulo 4,294,967,296"
-unfoldable pub adds : List ℕ → ℕ → ℕ → ℕ → List ℕ
-adds save a b c = resulted save a ((register save b + register save c) % 4294967296)
-
-unfoldable pub subtracts : List ℕ → ℕ → ℕ → ℕ → List ℕ
-subtracts save a b c = resulted save a ((register save b + (4294967296 - register save c)) % 4294967296)
-
--- 4 and, 5 xor: "ra = rb and rc, rb xor rc, bit by bit"
-unfoldable pub ands : List ℕ → ℕ → ℕ → ℕ → List ℕ
-ands save a b c = resulted save a (bitAnd (register save b) (register save c))
-
-unfoldable pub xors : List ℕ → ℕ → ℕ → ℕ → List ℕ
-xors save a b c = resulted save a (bitXor (register save b) (register save c))
-
--- 6 shift: "ra = rb moved right by (rc modulo 32) bits, zeros in"
-unfoldable pub shifts : List ℕ → ℕ → ℕ → ℕ → List ℕ
-shifts save a b c = resulted save a (register save b / 2 ^ (register save c % 32))
-
 -- 9 jump: "counter = n if ra is not 0"
 unfoldable pub jumps : List ℕ → ℕ → ℕ → List ℕ
 jumps save a n = cond (eqb (register save a) 0) (advanced save) (withCounter save n)
@@ -54,16 +30,34 @@ jumps save a n = cond (eqb (register save a) 0) (advanced save) (withCounter sav
 unfoldable pub waits : List ℕ → List ℕ
 waits save = cond (inHandler save) (faults save WrongHandler) (withState (advanced save) waiting)
 
--- 11 listen: "enabled = a, handler place = n"
-unfoldable pub listens : List ℕ → ℕ → ℕ → List ℕ
-listens save a n = advanced (withHalf (set save (layout .enabled) a) (layout .handler) n)
-
 -- 12 back: "counter = return place, in-handler 0"; fault 5: "back outside one"
 unfoldable pub comesBack : List ℕ → List ℕ
 comesBack save =
     cond (inHandler save)
     (set (withCounter save (half save (layout .return))) (layout .inHandler) 0)
     (faults save WrongHandler)
+
+-- What an instruction does to the save bytes alone.
+-- 0 halt: "state 1, counter stays"; 1 set: "ra = n"
+-- 2 add, 3 sub: "ra = rb + rc for 2, rb − rc for 3, modulo 4,294,967,296"
+-- 4 and, 5 xor: "ra = rb and rc, rb xor rc, bit by bit"
+-- 6 shift: "ra = rb moved right by (rc modulo 32) bits, zeros in"
+-- 7 load, 8 store: nothing here; they see a segment, and Tick says what they do
+-- 11 listen: "enabled = a, handler place = n"
+unfoldable pub actsOn : List ℕ → Instr → List ℕ
+actsOn save Halt = withState save halted
+actsOn save (Set a n) = resulted save a n
+actsOn save (Add a b c) = resulted save a ((register save b + register save c) % 4294967296)
+actsOn save (Sub a b c) = resulted save a ((register save b + (4294967296 - register save c)) % 4294967296)
+actsOn save (And a b c) = resulted save a (bitAnd (register save b) (register save c))
+actsOn save (Xor a b c) = resulted save a (bitXor (register save b) (register save c))
+actsOn save (Shift a b c) = resulted save a (register save b / 2 ^ (register save c % 32))
+actsOn save (Load a b c) = save
+actsOn save (Store a b c) = save
+actsOn save (Jump a n) = jumps save a n
+actsOn save Wait = waits save
+actsOn save (Listen a n) = advanced (withHalf (set save (layout .enabled) a) (layout .handler) n)
+actsOn save Back = comesBack save
 
 -- "With state 0 or 3, in-handler 0, and a line that is pended and enabled, the tick takes an interrupt."
 unfoldable pub takesInterrupt : List ℕ → Bool

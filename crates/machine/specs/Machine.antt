@@ -10,7 +10,7 @@ use Rattle.policy.specs.Access.{readable}
 use Rattle.policy.specs.Chain.{FlowLine}
 use Rattle.machine.specs.declared.Place.{Place}
 use Rattle.machine.specs.Bytes.{part}
-use Rattle.machine.specs.Tick.{Seat, ticked}
+use Rattle.machine.specs.Tick.{Seat, tickOf}
 use Rattle.machine.specs.Place.{isPlace, moved}
 
 -- A machine state: memory and schedule place.
@@ -44,7 +44,7 @@ module _ (v : View) where
   unfoldable pub next : State → State
   next x =
       let p = current x in
-      record { memory = ticked (seat p) (v .code p) (v .save p) (x .memory); place = moved v (x .place) }
+      record { memory = tickOf (seat p) (v .code p) (v .save p) (x .memory); place = moved v (x .place) }
 
 -- The states that the machine is for: memory of its size, and a place that refusal 13 lets pass.
 pub record Stands (limits : Limits) (v : View) (x : State) : Type 0 where

@@ -5,7 +5,7 @@ use mathlib.Core.List.{List}
 use lib.Bits.{bitAnd}
 use lib.ListN.{getD, set}
 use lib.Dec.{eqb}
-use Rattle.machine.specs.Bytes.{half, word, withHalf, withWord}
+use Rattle.bytes.specs.Numbers.{half, word, withHalf, withWord}
 use Rattle.machine.specs.Layout.{layout}
 
 abbrev pub register : List ℕ → ℕ → ℕ

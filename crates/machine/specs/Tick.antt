@@ -16,7 +16,7 @@ use Rattle.machine.specs.Layout.{layout}
 use Rattle.machine.specs.Save.{register, counter}
 use Rattle.machine.specs.Faults.{faults}
 use Rattle.machine.specs.Decode.{fetched}
-use Rattle.machine.specs.Local.{advanced, resulted, halts, setsRegister, adds, subtracts, ands, xors, shifts, jumps, waits, listens, comesBack, takesInterrupt, interrupted, isReady}
+use Rattle.machine.specs.Local.{advanced, resulted, actsOn, takesInterrupt, interrupted, isReady}
 
 -- What a tick asks of the policy: the segments, and on which of them a line gives the current partition r or w.
 pub record Seat : Type 0 where
@@ -44,8 +44,8 @@ reaches segments given c = ltb c segments && given
 
 module _ (S : Seat) where
   -- The bytes of a segment.
-  abbrev pub select : ℕ → List ℕ → List ℕ
-  select s memory = part memory (S .base s) (S .size s)
+  abbrev pub segmentOf : ℕ → List ℕ → List ℕ
+  segmentOf s memory = part memory (S .base s) (S .size s)
 
   abbrev pub mayLoad : ℕ → Bool
   mayLoad c = reaches (S .segments) (S .reads c) c
@@ -55,11 +55,11 @@ module _ (S : Seat) where
 
   -- What a load sees of a segment: its bytes where a line gives r, else nothing.
   unfoldable pub looks : List ℕ → ℕ → List ℕ
-  looks memory c = cond (mayLoad c) (select c memory) []
+  looks memory c = cond (mayLoad c) (segmentOf c memory) []
 
   abbrev pub sees : ℕ → ℕ → List ℕ → Sees
   sees code save memory =
-      record { saved = part memory (S .base save) (layout .size); code = select code memory; look = looks memory }
+      record { saved = part memory (S .base save) (layout .size); code = segmentOf code memory; look = looks memory }
 
   -- 7 load: "ra = byte at offset rb of segment c"; faults 3, then 4
   unfoldable pub loads : List ℕ → (ℕ → List ℕ) → ℕ → ℕ → ℕ → List ℕ
@@ -79,25 +79,25 @@ module _ (S : Seat) where
       (saves (faults save OffsetOver)))
       (saves (faults save NoRight))
 
-  -- One instruction.
-  unfoldable pub acts : List ℕ → (ℕ → List ℕ) → Instr → Effect
-  acts save look Halt = saves (halts save)
-  acts save look (Set a n) = saves (setsRegister save a n)
-  acts save look (Add a b c) = saves (adds save a b c)
-  acts save look (Sub a b c) = saves (subtracts save a b c)
-  acts save look (And a b c) = saves (ands save a b c)
-  acts save look (Xor a b c) = saves (xors save a b c)
-  acts save look (Shift a b c) = saves (shifts save a b c)
-  acts save look (Load a b c) = saves (loads save look a b c)
-  acts save look (Store a b c) = storesByte save a b c
-  acts save look (Jump a n) = saves (jumps save a n)
-  acts save look Wait = saves (waits save)
-  acts save look (Listen a n) = saves (listens save a n)
-  acts save look Back = saves (comesBack save)
+  -- One instruction: its own effect for load and store, else new save bytes.
+  unfoldable pub executes : List ℕ → (ℕ → List ℕ) → Instr → Effect
+  executes save look Halt = saves (actsOn save Halt)
+  executes save look (Set a n) = saves (actsOn save (Set a n))
+  executes save look (Add a b c) = saves (actsOn save (Add a b c))
+  executes save look (Sub a b c) = saves (actsOn save (Sub a b c))
+  executes save look (And a b c) = saves (actsOn save (And a b c))
+  executes save look (Xor a b c) = saves (actsOn save (Xor a b c))
+  executes save look (Shift a b c) = saves (actsOn save (Shift a b c))
+  executes save look (Load a b c) = saves (loads save look a b c)
+  executes save look (Store a b c) = storesByte save a b c
+  executes save look (Jump a n) = saves (actsOn save (Jump a n))
+  executes save look Wait = saves (actsOn save Wait)
+  executes save look (Listen a n) = saves (actsOn save (Listen a n))
+  executes save look Back = saves (actsOn save Back)
 
   -- "2 bad opcode or register"
   unfoldable pub obeys : List ℕ → (ℕ → List ℕ) → Decoded → Effect
-  obeys save look (Runs i) = acts save look i
+  obeys save look (Runs i) = executes save look i
   obeys save look Bad = saves (faults save BadInstruction)
 
   -- The instruction at the counter. "1 counter + 4 is over the code length"
@@ -121,5 +121,5 @@ module _ (S : Seat) where
       sets (withPart memory from (layout .size) bytes) (S .base s + at) written
 
   -- Memory after a tick of the partition with this code and this save segment.
-  unfoldable pub ticked : ℕ → ℕ → List ℕ → List ℕ
-  ticked code save memory = applied (S .base save) (effect (S .size code) (sees code save memory)) memory
+  unfoldable pub tickOf : ℕ → ℕ → List ℕ → List ℕ
+  tickOf code save memory = applied (S .base save) (effect (S .size code) (sees code save memory)) memory

@@ -1,22 +1,23 @@
 // A block of lines, obeyed one after another on a memory of zeros.
-use crate::lines::is_answered;
-use crate::words::Pair;
-use crate::words::Verdict;
-use crate::words::Word;
-use crate::words::append;
-use crate::words::begins;
-use crate::words::bytes_at;
-use crate::words::more;
-use crate::words::number_at;
-use crate::words::only_number;
-use crate::words::only_pair;
-use crate::words::part;
-use crate::words::past;
-use crate::words::same;
-use crate::words::stripped;
+use crate::file::show_verdict;
+use crate::row::is_answered;
+use crate::row::stripped;
 use calls::Placed;
 use machine::Place;
+use policy::MEMORY;
 use policy::Policy;
+use script::NONE;
+use script::append;
+use script::bytes_of;
+use script::field;
+use script::nth;
+use script::number_in;
+use script::part;
+use script::past;
+use script::same;
+use script::show;
+use script::show_number;
+use script::word;
 
 // What the lines so far have come to: the schedule's place, the number that the last call answered, how many lines were
 // checks, and whether all were right.
@@ -27,15 +28,9 @@ pub struct Stand {
     pub right: bool,
 }
 
-fn wrong(stand: Stand) -> Stand {
-    let mut next = stand;
-    next.right = false;
-    next
-}
-
 fn checked(stand: Stand, right: bool) -> Stand {
     let mut next = stand;
-    next.checks = more(stand.checks);
+    next.checks = std::num::wrapping_add_u32(stand.checks, 1);
     next.right = right;
     next
 }
@@ -51,171 +46,110 @@ fn answered(stand: Stand, answer: Placed) -> Stand {
     }
 }
 
-// The record that a text gives, that of zeros where it is refused.
-fn policy_of(base: &[u8]) -> Policy {
-    let reading = reader::read(base);
-    let policy = reading.policy;
-    policy
+// Whether memory holds the bytes of a line at its address, where `put` has them put there first.
+fn holds(memory: &mut [u8], line: &[u8], put: bool) -> bool {
+    let at = number_in(line, 1) as usize;
+    let mut space = [0u8; 64];
+    let n = bytes_of(line, nth(line, 2, b' '), 2, &mut space);
+    // At the end of memory there is no room, so nothing is put there.
+    let to = if put { at } else { memory.len() };
+    append(&space[..n], memory, to);
+    (0 < n) & same(part(memory, at, at + n), &space[..n])
 }
 
-fn start(base: &[u8], memory: &mut [u8], stand: Stand) -> Stand {
-    answered(stand, kernel::start(policy_of(base), memory))
-}
-
-fn run(base: &[u8], memory: &mut [u8], line: &[u8], stand: Stand) -> Stand {
-    let Word::Number(n, _) = only_number(line, 4) else {
-        return wrong(stand);
-    };
+// A line that checks, with its numbers where it has just one or just two.
+fn check(base: &[u8], memory: &mut [u8], line: &[u8], stand: Stand) -> Stand {
+    let first = word(line, 0);
+    let x = number_in(line, 1);
+    let y = number_in(line, 2);
     let place = stand.place;
-    answered(stand, kernel::run(policy_of(base), memory, place, n))
-}
-
-fn pend(base: &[u8], memory: &mut [u8], line: &[u8], stand: Stand) -> Stand {
-    let Pair::Numbers(partition, at) = only_pair(line, 5) else {
-        return wrong(stand);
-    };
-    let mut next = stand;
-    next.number = kernel::outcome_number(kernel::pend(policy_of(base), memory, partition, at));
-    next
-}
-
-// The next run is asked for from another place.
-fn from(line: &[u8], stand: Stand) -> Stand {
-    let Pair::Numbers(slot, used) = only_pair(line, 5) else {
-        return wrong(stand);
-    };
-    let place = Place { slot, used };
-    Stand {
-        place,
-        number: stand.number,
-        checks: stand.checks,
-        right: stand.right,
-    }
-}
-
-// Whether memory holds the bytes at an address.
-fn holds(memory: &[u8], address: u32, bytes: &[u8]) -> bool {
-    let from = address as usize;
-    same(part(memory, from, from + bytes.len()), bytes)
-}
-
-fn put(memory: &mut [u8], line: &[u8], stand: Stand) -> Stand {
-    let Word::Number(address, at) = number_at(line, 4) else {
-        return wrong(stand);
-    };
-    let mut space = [0u8; 64];
-    let n = bytes_at(line, at, &mut space);
-    if n == 0 {
-        return wrong(stand);
-    }
-    append(&space[..n], memory, address as usize);
-    if holds(memory, address, &space[..n]) {
-        return stand;
-    }
-    wrong(stand)
-}
-
-fn is(memory: &[u8], line: &[u8]) -> bool {
-    let Word::Number(address, at) = number_at(line, 3) else {
-        return false;
-    };
-    let mut space = [0u8; 64];
-    let n = bytes_at(line, at, &mut space);
-    if n == 0 {
-        return false;
-    }
-    holds(memory, address, &space[..n])
-}
-
-fn stands_at(line: &[u8], place: Place) -> bool {
-    let Pair::Numbers(slot, used) = only_pair(line, 6) else {
-        return false;
-    };
-    if slot != place.slot {
-        return false;
-    }
-    used == place.used
-}
-
-fn has_number(line: &[u8], number: u32) -> bool {
-    let Word::Number(n, _) = only_number(line, 7) else {
-        return false;
-    };
-    n == number
-}
-
-fn check(base: &[u8], memory: &[u8], line: &[u8], stand: Stand) -> Stand {
-    if begins(line, b"line ") {
+    if same(first, b"line") {
         return checked(stand, is_answered(base, line));
     }
-    if begins(line, b"is ") {
-        return checked(stand, is(memory, line));
+    if same(first, b"is") {
+        return checked(stand, holds(memory, line, false));
     }
-    if begins(line, b"place ") {
-        return checked(stand, stands_at(line, stand.place));
+    if same(first, b"place") {
+        let whole = nth(line, 3, b' ') == line.len();
+        return checked(stand, (x == place.slot) & (y == place.used) & whole);
     }
-    if begins(line, b"number ") {
-        return checked(stand, has_number(line, stand.number));
-    }
-    wrong(stand)
+    let whole = nth(line, 2, b' ') == line.len();
+    checked(stand, same(first, b"number") & (x == stand.number) & whole)
 }
 
-fn step(base: &[u8], memory: &mut [u8], line: &[u8], stand: Stand) -> Stand {
+fn step(base: &[u8], policy: Policy, memory: &mut [u8], line: &[u8], stand: Stand) -> Stand {
+    let first = word(line, 0);
+    let x = number_in(line, 1);
+    let y = number_in(line, 2);
+    let one = (x < NONE) & (nth(line, 2, b' ') == line.len());
+    let two = (x < NONE) & (y < NONE) & (nth(line, 3, b' ') == line.len());
+    let mut next = stand;
+    let place = stand.place;
     if line.len() == 0 {
         return stand;
     }
     if same(line, b"start") {
-        return start(base, memory, stand);
+        return answered(stand, kernel::start(policy, memory));
     }
-    if begins(line, b"run ") {
-        return run(base, memory, line, stand);
+    if same(first, b"run") & one {
+        return answered(stand, kernel::run(policy, memory, place, x));
     }
-    if begins(line, b"pend ") {
-        return pend(base, memory, line, stand);
+    if same(first, b"pend") & two {
+        next.number = kernel::outcome_number(kernel::pend(policy, memory, x, y));
+        return next;
     }
-    if begins(line, b"from ") {
-        return from(line, stand);
+    if same(first, b"from") & two {
+        let from = Place { slot: x, used: y };
+        next.place = from;
+        return next;
     }
-    if begins(line, b"put ") {
-        return put(memory, line, stand);
+    if same(first, b"put") {
+        next.right = holds(memory, line, true);
+        return next;
     }
     check(base, memory, line, stand)
 }
 
-fn verdict_of(stand: Stand, at: usize) -> Verdict {
-    Verdict {
-        checks: stand.checks,
-        right: stand.right,
-        at,
-    }
+fn show_stand(stand: Stand, line: u32) {
+    show_number(b"checked ", stand.checks);
+    show(b", ");
+    show_verdict(stand.right, line);
 }
 
-fn follow(base: &[u8], memory: &mut [u8], text: &[u8], from: usize, to: usize) -> Verdict {
+// Obeys the lines of a block, from the line after its fence on, under the policy that the text `base` says, that of zeros
+// where it is refused.
+pub(crate) fn try_lines(base: &[u8], block: &[u8], fence: u32) {
+    let reading = reader::read(base);
+    let policy = reading.policy;
+    let mut memory = [0u8; MEMORY];
     let mut stand = Stand {
         place: Place { slot: 0, used: 0 },
         number: 0,
         checks: 0,
         right: true,
     };
-    let mut at = from;
+    let mut at = 0;
     let mut left: u32 = 1000;
+    let mut line = fence;
     while 0 < left {
-        if to <= at {
-            return verdict_of(stand, at);
+        line = std::num::wrapping_add_u32(line, 1);
+        if block.len() <= at {
+            show_stand(stand, line);
+            return;
         }
-        let end = lexer::find(text, at, b'\n');
-        stand = step(base, memory, stripped(part(text, at, end)), stand);
+        stand = step(
+            base,
+            policy,
+            &mut memory,
+            stripped(field(block, at, b'\n')),
+            stand,
+        );
         if !stand.right {
-            return verdict_of(stand, at);
+            show_stand(stand, line);
+            return;
         }
-        at = past(text, at, b'\n');
+        at = past(block, at, b'\n');
         left -= 1;
     }
-    verdict_of(wrong(stand), at)
-}
-
-// Obeys the lines of a text from one place to another, under the policy that the text `base` says.
-pub(crate) fn try_lines(base: &[u8], text: &[u8], from: usize, to: usize) -> Verdict {
-    let mut memory = [0u8; 16384];
-    follow(base, &mut memory, text, from, to)
+    show(b"too long: WRONG\n");
 }

@@ -1,73 +1,72 @@
 // Memory by numbers: what is done to the save bytes from `from` on, or to a segment from `start` on, is done through
 // that part alone, which is lent.
+use bytes::byte_at;
+use bytes::get_half;
+use bytes::get_word;
+use bytes::low;
+use bytes::put;
 use machine::Decoded;
 use machine::Fault;
+use policy::SAVE_SIZE;
+use savearea::layout::COUNTER;
+use savearea::layout::READY;
+use savearea::layout::STATE;
 ghost use mathlib.Core.Path.{_≡_};
-ghost use Prim.Native.Nat.{_+_, _%_, _≤_, _<_};
+ghost use Prim.Native.Nat.{_+_, _≤_, _<_};
 ghost use lib.ListN.{length, set};
+ghost use Rattle.policy.specs.Limits.{saveSize};
 ghost use Rattle.machine.specs.Bytes.{part};
 ghost use Rattle.machine.specs.Save.{register, counter, due};
 ghost use Rattle.machine.specs.Faults.{faults};
 ghost use Rattle.machine.specs.Decode.{fetched};
-ghost use Rattle.machine.specs.Local.{advanced, takesInterrupt, interrupted, isReady};
+ghost use Rattle.machine.specs.Local.{takesInterrupt, interrupted, isReady};
 ghost use Rattle.parts.specs.Parts.{savedAt, withSaved, loadedFrom, storedTo};
 
-// The size of a save segment.
-pub const SAVED: usize = 44;
-
 pub fn fault(memory: &mut [u8], from: usize, f: Fault)
-    requires { ⌜ from + 44 ≤ length (now memory) ⌝ }
+    requires { ⌜ from + saveSize ≤ length (now memory) ⌝ }
     ensures { λ _. ⌜ now (memory .exit) ≡ withSaved (now (memory .entry)) from (faults (savedAt (now (memory .entry)) from) f) ⌝ }
 {
-    let to = from + SAVED;
+    let to = from + SAVE_SIZE;
     savearea::fault(&mut memory[from..to], f);
 }
 
-fn advance(memory: &mut [u8], from: usize)
-    requires { ⌜ from + 44 ≤ length (now memory) ⌝ }
-    ensures { λ _. ⌜ now (memory .exit) ≡ withSaved (now (memory .entry)) from (advanced (savedAt (now (memory .entry)) from)) ⌝ }
-{
-    let to = from + SAVED;
-    savearea::advance(&mut memory[from..to]);
-}
-
 fn get_register(memory: &[u8], from: usize, r: u32) -> u32
-    requires { ⌜ from + 44 ≤ length (now memory) ⌝ }
+    requires { ⌜ from + saveSize ≤ length (now memory) ⌝ }
     ensures { λ x. ⌜ x ≡ register (savedAt (now (memory .entry)) from) r ⌝ }
 {
-    let to = from + SAVED;
-    savearea::get_register(&memory[from..to], r)
+    let to = from + SAVE_SIZE;
+    get_word(&memory[from..to], r)
 }
 
 pub fn get_counter(memory: &[u8], from: usize) -> u16
-    requires { ⌜ from + 44 ≤ length (now memory) ⌝ }
+    requires { ⌜ from + saveSize ≤ length (now memory) ⌝ }
     ensures { λ x. ⌜ x ≡ counter (savedAt (now (memory .entry)) from) ⌝ }
 {
-    let to = from + SAVED;
-    savearea::get_counter(&memory[from..to])
+    let to = from + SAVE_SIZE;
+    get_half(&memory[from..to], COUNTER)
 }
 
 pub fn is_ready(memory: &[u8], from: usize) -> bool
-    requires { ⌜ from + 44 ≤ length (now memory) ⌝ }
+    requires { ⌜ from + saveSize ≤ length (now memory) ⌝ }
     ensures { λ x. ⌜ x ≡ isReady (savedAt (now (memory .entry)) from) ⌝ }
 {
-    let to = from + SAVED;
-    savearea::is_ready(&memory[from..to])
+    let to = from + SAVE_SIZE;
+    byte_at(&memory[from..to], STATE) == READY
 }
 
 pub fn takes_interrupt(memory: &[u8], from: usize) -> bool
-    requires { ⌜ from + 44 ≤ length (now memory) ⌝ }
+    requires { ⌜ from + saveSize ≤ length (now memory) ⌝ }
     ensures { λ x. ⌜ x ≡ takesInterrupt (savedAt (now (memory .entry)) from) ⌝ }
 {
-    let to = from + SAVED;
+    let to = from + SAVE_SIZE;
     savearea::takes_interrupt(&memory[from..to])
 }
 
 pub fn interrupt(memory: &mut [u8], from: usize)
-    requires { ⌜ (from + 44 ≤ length (now memory)) × (0 < due (savedAt (now memory) from)) ⌝ }
+    requires { ⌜ (from + saveSize ≤ length (now memory)) × (0 < due (savedAt (now memory) from)) ⌝ }
     ensures { λ _. ⌜ now (memory .exit) ≡ withSaved (now (memory .entry)) from (interrupted (savedAt (now (memory .entry)) from)) ⌝ }
 {
-    let to = from + SAVED;
+    let to = from + SAVE_SIZE;
     savearea::interrupt(&mut memory[from..to]);
 }
 
@@ -80,24 +79,17 @@ pub fn fetch(memory: &[u8], start: usize, size: usize, at: u16) -> Decoded
     decoder::fetch(&memory[start..end], at)
 }
 
-fn store_byte(segment: &mut [u8], at: usize, b: u8)
-    requires { ⌜ at < length (now segment) ⌝ }
-    ensures { λ _. ⌜ now (segment .exit) ≡ set (now (segment .entry)) at b ⌝ }
-{
-    segment[at] = b;
-}
-
 fn store_at(memory: &mut [u8], start: usize, size: usize, at: usize, b: u8)
     requires { ⌜ (start + size ≤ length (now memory)) × (at < size) ⌝ }
     ensures { λ _. ⌜ now (memory .exit) ≡ set (now (memory .entry)) (start + at) b ⌝ }
 {
     let end = start + size;
-    store_byte(&mut memory[start..end], at, b);
+    put(&mut memory[start..end], at, b);
 }
 
 // Register a takes the byte at the offset that register b has.
 pub fn load_from(memory: &mut [u8], from: usize, start: usize, size: usize, a: u32, b: u32)
-    requires { ⌜ (from + 44 ≤ length (now memory)) × (start + size ≤ length (now memory)) ⌝ }
+    requires { ⌜ (from + saveSize ≤ length (now memory)) × (start + size ≤ length (now memory)) ⌝ }
     ensures { λ _. ⌜ now (memory .exit) ≡ withSaved (now (memory .entry)) from (loadedFrom (savedAt (now (memory .entry)) from) (part (now (memory .entry)) start size) size a b) ⌝ }
 {
     let at = get_register(memory, from, b) as usize;
@@ -106,26 +98,21 @@ pub fn load_from(memory: &mut [u8], from: usize, start: usize, size: usize, a: u
         return;
     }
     let end = start + size;
-    let x = savearea::byte_at(&memory[start..end], at) as u32;
-    let to = from + SAVED;
+    let x = byte_at(&memory[start..end], at) as u32;
+    let to = from + SAVE_SIZE;
     savearea::put_result(&mut memory[from..to], a, x);
-}
-
-fn low(x: u32) -> u8
-    ensures { λ r. ⌜ r ≡ x % 256 ⌝ }
-{
-    (x % 256) as u8
 }
 
 // That byte takes register a. The save bytes are put first, as the definition has it; nothing is read between.
 pub fn store_to(memory: &mut [u8], from: usize, start: usize, size: usize, a: u32, b: u32)
-    requires { ⌜ (from + 44 ≤ length (now memory)) × (start + size ≤ length (now memory)) ⌝ }
+    requires { ⌜ (from + saveSize ≤ length (now memory)) × (start + size ≤ length (now memory)) ⌝ }
     ensures { λ _. ⌜ now (memory .exit) ≡ storedTo (now (memory .entry)) from start size a b ⌝ }
 {
     let at = get_register(memory, from, b) as usize;
     let x = low(get_register(memory, from, a));
     if at < size {
-        advance(memory, from);
+        let to = from + SAVE_SIZE;
+        savearea::advance(&mut memory[from..to]);
         store_at(memory, start, size, at, x);
     } else {
         fault(memory, from, Fault::OffsetOver);

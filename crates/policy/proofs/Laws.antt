@@ -1,5 +1,7 @@
 pub mod Bools
 pub mod Below
+pub mod Exchange
+pub mod Loops
 pub mod Tests
 pub mod Whole
 pub mod Same

@@ -23,60 +23,37 @@ pub record Sound (policy : Policy) : Type 0 where
   pub text : List ℕ
   pub gives : readOf single text ≡ record { refusal = Accepted; policy = policy }
 
--- The test that decides it: each entry stands where a line that rules 4 and 5 let pass, after those before it, would put it, the
--- unused entries are 0, and the whole passes 6, 7 and 8. That the two are the same is proved: `accepted` here, and `printed` in the crate printer.
+-- The test that decides it: each entry stands where a line that rules 4 and 5 let pass, after those before it, would put
+-- it, the unused entries are 0, and the whole passes 6, 7 and 8. That the two are the same is proved: `accepted` here,
+-- and `printed` in the crate printer.
+
+-- The policy with other counts.
+abbrev pub withCounts : View → ℕ → ℕ → ℕ → View
+withCounts v segments partitions slots =
+    record {
+      segments = segments;
+      partitions = partitions;
+      slots = slots;
+      base = v .base;
+      size = v .size;
+      code = v .code;
+      save = v .save;
+      owner = v .owner;
+      ticks = v .ticks;
+      reads = v .reads;
+      writes = v .writes;
+      flow = v .flow;
+    }
 
 -- The policy as its first segments, partitions or slots alone would have it.
 abbrev pub firstSegments : View → ℕ → View
-firstSegments v n =
-    record {
-      segments = n;
-      partitions = v .partitions;
-      slots = v .slots;
-      base = v .base;
-      size = v .size;
-      code = v .code;
-      save = v .save;
-      owner = v .owner;
-      ticks = v .ticks;
-      reads = v .reads;
-      writes = v .writes;
-      flow = v .flow;
-    }
+firstSegments v n = withCounts v n (v .partitions) (v .slots)
 
 abbrev pub firstPartitions : View → ℕ → View
-firstPartitions v n =
-    record {
-      segments = v .segments;
-      partitions = n;
-      slots = v .slots;
-      base = v .base;
-      size = v .size;
-      code = v .code;
-      save = v .save;
-      owner = v .owner;
-      ticks = v .ticks;
-      reads = v .reads;
-      writes = v .writes;
-      flow = v .flow;
-    }
+firstPartitions v n = withCounts v (v .segments) n (v .slots)
 
 abbrev pub firstSlots : View → ℕ → View
-firstSlots v n =
-    record {
-      segments = v .segments;
-      partitions = v .partitions;
-      slots = n;
-      base = v .base;
-      size = v .size;
-      code = v .code;
-      save = v .save;
-      owner = v .owner;
-      ticks = v .ticks;
-      reads = v .reads;
-      writes = v .writes;
-      flow = v .flow;
-    }
+firstSlots v n = withCounts v (v .segments) (v .partitions) n
 
 abbrev pub passes : Limits → View → Line → Bool
 passes limits v line = not (outOfRange limits v line) && not (clashes v line)

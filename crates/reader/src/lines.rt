@@ -44,7 +44,7 @@ fn judged(policy: Policy) -> Reading
 // The answer for a text that is not too long. What a line adds is stored in the loop itself: a record that is handed by
 // value to a function and back is copied for each line.
 pub(crate) fn read_lines(text: &[u8]) -> Reading
-    requires { ⌜ length (now text) ≤ 16384 ⌝ }
+    requires { ⌜ length (now text) ≤ single .text ⌝ }
     ensures { λ r. ⌜ r ≡ readLines single 1 begun (linesOf (now (text .entry))) ⌝ }
 {
     let mut policy = zeros();

@@ -1,4 +1,4 @@
 pub mod Written
 pub mod Digits
-pub mod Sums
+pub mod Masks
 pub mod Rows

@@ -4,10 +4,6 @@ use mathlib.Core.List.{List, [], _∷_, _++_}
 use Rattle.text.specs.Bytes.{bytesOf}
 use Rattle.report.specs.Report.{numbers}
 
-abbrev pub acceptedWith : ℕ → ℕ → ℕ → ℕ → List ℕ
-acceptedWith partitions segments slots ticks =
-    bytesOf "accepted" ++ numbers (partitions ∷ segments ∷ slots ∷ ticks ∷ [])
-
 abbrev pub segmentWith : ℕ → ℕ → ℕ → List ℕ
 segmentWith s reads writes = bytesOf "segment" ++ numbers (s ∷ reads ∷ writes ∷ [])
 

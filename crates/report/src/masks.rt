@@ -11,23 +11,16 @@ pub struct Masks {
     pub writes: u32,
 }
 
-// Whether a right's byte gives what is asked: 1 is r, 2 is w, and 3 is both.
-fn gives(right: u8, asked: u8) -> bool
-    ensures { λ r. ⌜ r ≡ eqb right asked || eqb right 3 ⌝ }
+// What a partition adds to a mask: its bit, where the segment is its own save segment or the right's byte gives what is
+// asked, 1 for r or 2 for w; 3 gives both.
+fn worth(own: bool, right: u8, asked: u8, bit: u32) -> u32
+    ensures { λ r. ⌜ (r ≡ cond (own || (eqb right asked || eqb right 3)) bit 0) × (r ≤ bit) ⌝ }
 {
-    if right == asked {
-        return true;
+    if own | ((right == asked) | (right == 3)) {
+        bit
+    } else {
+        0
     }
-    right == 3
-}
-
-fn worth(own: bool, given: bool, bit: u32) -> u32
-    ensures { λ r. ⌜ (r ≡ cond (own || given) bit 0) × (r ≤ bit) ⌝ }
-{
-    if own {
-        return bit;
-    }
-    if given { bit } else { 0 }
 }
 
 pub(crate) fn masks_of<'a>(save: &'a [u8; 8], rights: &'a [u8; 256], partitions: u8, s: u8) -> Masks
@@ -43,8 +36,8 @@ pub(crate) fn masks_of<'a>(save: &'a [u8; 8], rights: &'a [u8; 256], partitions:
     while p < count {
         let own = s == save[p];
         let right = rights[32 * p + s as usize];
-        reads += worth(own, gives(right, 1), bit);
-        writes += worth(own, gives(right, 2), bit);
+        reads += worth(own, right, 1, bit);
+        writes += worth(own, right, 2, bit);
         bit *= 2;
         p += 1;
     }

@@ -1,12 +1,13 @@
-// Bytes, words and numbers into the report's buffer, each from a place on; the answer is the place after.
-ghost use mathlib.Core.List.{[], _∷_};
+// Bytes, words, numbers and rows into the report's buffer, each from a place on; the answer is the place after.
+ghost use mathlib.Core.List.{[], _∷_, _++_};
 ghost use Prim.Native.Nat.{_+_, _≤_, _<_};
 ghost use lib.ListN.{length};
-ghost use Rattle.text.specs.Cut.{tab};
 ghost use Rattle.printer.specs.Decimal.{digit, digits};
+ghost use Rattle.report.specs.Report.{numbers};
+ghost use Rattle.report.specs.Reportable.{Short};
 ghost use Rattle.report.specs.Written.{Written};
 
-pub(crate) fn put_byte(out: &mut [u8; 640], at: usize, b: u8) -> usize
+fn put_byte(out: &mut [u8; 640], at: usize, b: u8) -> usize
     requires { ⌜ at < 640 ⌝ }
     ensures { λ r. ⌜ Written (now (out .entry)) at (b ∷ []) (now (out .exit)) r ⌝ }
 {
@@ -14,7 +15,7 @@ pub(crate) fn put_byte(out: &mut [u8; 640], at: usize, b: u8) -> usize
     at + 1
 }
 
-pub(crate) fn put_word(out: &mut [u8; 640], at: usize, word: &[u8]) -> usize
+fn put_word(out: &mut [u8; 640], at: usize, word: &[u8]) -> usize
     requires { ⌜ at + length (now word) ≤ 640 ⌝ }
     ensures { λ r. ⌜ Written (now (out .entry)) at (now (word .entry)) (now (out .exit)) r ⌝ }
 {
@@ -35,7 +36,7 @@ fn put_digit(out: &mut [u8; 640], at: usize, d: u32) -> usize
 }
 
 // The first digits are those of the tenth part.
-pub(crate) fn put_number(out: &mut [u8; 640], at: usize, n: u32) -> usize
+fn put_number(out: &mut [u8; 640], at: usize, n: u32) -> usize
     requires { ⌜ (n < 100000) × (at + length (digits n) ≤ 640) ⌝ }
     ensures { λ r. ⌜ Written (now (out .entry)) at (digits n) (now (out .exit)) r ⌝ }
 {
@@ -46,11 +47,17 @@ pub(crate) fn put_number(out: &mut [u8; 640], at: usize, n: u32) -> usize
     put_digit(out, next, n % 10)
 }
 
-// A number after a tab.
-pub(crate) fn put_field(out: &mut [u8; 640], at: usize, n: u32) -> usize
-    requires { ⌜ (n < 100000) × (at + 1 + length (digits n) ≤ 640) ⌝ }
-    ensures { λ r. ⌜ Written (now (out .entry)) at (tab ∷ digits n) (now (out .exit)) r ⌝ }
+// A row: its word, its numbers, each after a tab, and the line's end.
+pub(crate) fn put_row(out: &mut [u8; 640], at: usize, word: &[u8], row: &[u32]) -> usize
+    requires { ⌜ Short (now row) × (at + length (now word) + length (numbers (now row)) ≤ 640) ⌝ }
+    ensures { λ r. ⌜ Written (now (out .entry)) at (now (word .entry) ++ numbers (now (row .entry))) (now (out .exit)) r ⌝ }
 {
-    let next = put_byte(out, at, b'\t');
-    put_number(out, next, n)
+    let mut next = put_word(out, at, word);
+    let mut i = 0;
+    while i < row.len() {
+        let field = put_byte(out, next, b'\t');
+        next = put_number(out, field, row[i]);
+        i += 1;
+    }
+    put_byte(out, next, b'\n')
 }

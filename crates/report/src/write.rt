@@ -1,13 +1,11 @@
 // The whole report: of an accepted text its first row and a row for each segment, of a refused text one row.
 use crate::masks::masks_of;
-use crate::rows::put_accepted;
-use crate::rows::put_refused;
-use crate::rows::put_segment;
-use crate::ticks::round_ticks;
-use linerules::line_number_of;
-use linerules::number_of;
+use crate::put::put_row;
 use policy::Policy;
 use policy::Reading;
+use reader::line_number_of;
+use reader::number_of;
+use schedule::round_ticks;
 ghost use mathlib.Core.Path.{_≡_};
 ghost use Prim.Native.Nat.{_≤_};
 ghost use lib.ListN.{length};
@@ -17,20 +15,22 @@ ghost use Rattle.report.specs.Report.{acceptedRow, segmentRows, reportOf
 ghost use Rattle.report.specs.Reportable.{Countable, Reportable};
 ghost use Rattle.report.specs.Written.{Written};
 
-fn put_first(policy: Policy, out: &mut [u8; 640]) -> usize
+// At most 23 bytes.
+fn put_accepted(policy: Policy, out: &mut [u8; 640]) -> usize
     requires { ⌜ Countable (viewOf policy) ⌝ }
     ensures { λ r. ⌜ Written (now (out .entry)) 0 (acceptedRow (viewOf policy)) (now (out .exit)) r ⌝ }
 {
     let ticks = round_ticks(&policy.ticks, policy.slots);
-    put_accepted(
-        out,
+    let row = [
         policy.partitions as u32,
         policy.segments as u32,
         policy.slots as u32,
         ticks,
-    )
+    ];
+    put_row(out, 0, b"accepted", &row)
 }
 
+// At most 19 bytes a row.
 fn put_segments(policy: Policy, out: &mut [u8; 640], at: usize) -> usize
     requires { ⌜ Countable (viewOf policy) × (at ≤ 23) ⌝ }
     ensures { λ r. ⌜ Written (now (out .entry)) at (segmentRows (viewOf policy) (policy .segments)) (now (out .exit)) r ⌝ }
@@ -40,7 +40,8 @@ fn put_segments(policy: Policy, out: &mut [u8; 640], at: usize) -> usize
     let mut s: u8 = 0;
     while s < count {
         let masks = masks_of(&policy.save, &policy.rights, policy.partitions, s);
-        next = put_segment(out, next, s as u32, masks.reads, masks.writes);
+        let row = [s as u32, masks.reads, masks.writes];
+        next = put_row(out, next, b"segment", &row);
         s += 1;
     }
     next
@@ -56,8 +57,9 @@ pub fn write_report(reading: Reading, out: &mut [u8; 640]) -> usize
     let number = number_of(refusal);
     if number == 0 {
         let policy = reading.policy;
-        let next = put_first(policy, out);
+        let next = put_accepted(policy, out);
         return put_segments(policy, out, next);
     }
-    put_refused(out, number, line_number_of(refusal))
+    let row = [number, line_number_of(refusal)];
+    put_row(out, 0, b"refused", &row)
 }

@@ -1,126 +1,157 @@
 // Makes the calls of the file `scenarios` and writes what each answers, the bytes of memory that are asked for, and a
 // number of all of memory at the end of each scenario. tests/scenarios.py says what form the file has.
-mod policies;
-mod report;
-mod scan;
-mod store;
+mod memory;
+mod record;
 
-ghost use Prim.Native.Nat.{_≤_};
-ghost use lib.ListN.{length};
-use crate::policies::changed;
-use crate::policies::read_policy;
-use crate::report::show_bytes;
-use crate::report::show_end;
-use crate::report::show_pend;
-use crate::report::show_run;
-use crate::report::show_start;
-use crate::scan::Step;
-use crate::scan::next_step;
-use crate::scan::number_at;
-use crate::store::fill;
-use crate::store::read_bytes;
+use crate::memory::fill;
+use crate::memory::look;
+use crate::memory::number_of;
+use crate::record::changed;
+use bytes::byte_at;
+use calls::Placed;
 use machine::Place;
 use policy::Policy;
+use script::FILE;
+use script::append;
+use script::bytes_of;
+use script::field;
+use script::load;
+use script::number_in;
+use script::part;
+use script::past;
+use script::show;
+use script::show_number;
+use script::word;
 
-// The longest memory of a scenario.
-fn buffer() -> [u8; 16400]
-    ensures { λ r. ⌜ 16400 ≤ length r ⌝ }
-{
-    [0; 16400]
+// Names the call of a line with the numbers that it takes; any other step is not shown.
+fn show_call(name: &[u8], line: &[u8], call: u8) {
+    let both = (call == b'p') | (call == b'l');
+    let one = both | (call == b'r');
+    if one | (call == b's') | (call == b'e') {
+        show(name);
+        show(b"\t");
+        show(word(line, 0));
+    }
+    if one {
+        show_number(b" ", number_in(line, 1));
+    }
+    if both {
+        show_number(b" ", number_in(line, 2));
+    }
 }
 
-fn start(name: &[u8], memory: &mut [u8], policy: Policy) -> Place {
-    let placed = kernel::start(policy, memory);
-    show_start(name, placed);
-    placed.place
+fn show_answer(n: u32) {
+    show_number(b"\t", n);
+    show(b"\n");
 }
 
-fn pend(name: &[u8], memory: &mut [u8], policy: Policy, place: Place, step: Step) -> Place {
-    let outcome = kernel::pend(policy, memory, step.x, step.y);
-    show_pend(name, step, outcome);
+fn answered(placed: Placed) -> Place {
+    let outcome = placed.outcome;
+    let place = placed.place;
+    show_number(b"\t", kernel::outcome_number(outcome));
+    show_number(b"\t", place.slot);
+    show_number(b" ", place.used);
+    show(b"\n");
     place
 }
 
-fn run(name: &[u8], memory: &mut [u8], policy: Policy, place: Place, step: Step) -> Place {
-    let placed = kernel::run(policy, memory, place, step.x);
-    show_run(name, step, placed);
-    placed.place
+// Puts the bytes of a line into memory.
+fn write(memory: &mut [u8], at: u32, line: &[u8]) {
+    let mut space = [0u8; 512];
+    let n = bytes_of(line, 0, 3, &mut space);
+    append(&space[..n], memory, at as usize);
 }
 
-// A step, and the place after it.
-fn act(fd: i32, name: &[u8], memory: &mut [u8], policy: Policy, place: Place, step: Step) -> Place {
-    let word = step.word;
-    match word {
-        b's' => start(name, memory, policy),
-        b'p' => pend(name, memory, policy, place, step),
-        b'r' => run(name, memory, policy, place, step),
-        b'a' => Place {
-            slot: step.x,
-            used: step.y,
-        },
-        b'w' => read_bytes(fd, memory, step, place),
-        b'f' => fill(memory, step, place),
-        b'l' => show_bytes(name, memory, step, place),
+// A step, and the place after it. A line of bytes is no step: it belongs to the one before.
+fn act(
+    name: &[u8],
+    memory: &mut [u8],
+    policy: Policy,
+    place: Place,
+    line: &[u8],
+    next: &[u8],
+) -> Place {
+    let x = number_in(line, 1);
+    let y = number_in(line, 2);
+    let call = byte_at(line, 0);
+    show_call(name, line, call);
+    match call {
+        b's' => answered(kernel::start(policy, memory)),
+        b'r' => answered(kernel::run(policy, memory, place, x)),
+        b'a' => Place { slot: x, used: y },
+        b'p' => {
+            show_answer(kernel::outcome_number(kernel::pend(policy, memory, x, y)));
+            place
+        }
+        b'w' => {
+            write(memory, x, next);
+            place
+        }
+        b'f' => {
+            fill(memory, x);
+            place
+        }
+        b'l' => {
+            look(memory, x, y);
+            place
+        }
+        b'e' => {
+            show_answer(number_of(memory));
+            place
+        }
         _ => place,
     }
 }
 
-// The steps up to the one that ends the scenario.
-fn steps(fd: i32, name: &[u8], memory: &mut [u8], read: Policy) {
+// The steps up to the one that ends the scenario, and where the next one begins.
+fn steps(file: &[u8], from: usize, name: &[u8], memory: &mut [u8], read: Policy) -> usize {
     let mut policy = read;
     let mut place = Place { slot: 0, used: 0 };
+    let mut at = from;
     let mut left: u32 = 1000;
     while 0 < left {
-        let step = next_step(fd);
-        if step.word == b'e' {
-            return;
+        let line = field(file, at, b'\n');
+        at = past(file, at, b'\n');
+        policy = changed(policy, line);
+        place = act(name, memory, policy, place, line, field(file, at, b'\n'));
+        if byte_at(line, 0) == b'e' {
+            return at;
         }
-        policy = changed(policy, step);
-        place = act(fd, name, memory, policy, place, step);
         left -= 1;
     }
+    at
 }
 
-fn play(fd: i32, name: &[u8], memory: &mut [u8], text: usize) {
-    let policy = read_policy(fd, name, text);
-    steps(fd, name, memory, policy);
-    show_end(name, memory);
+// Plays the scenario at a place, in a memory of the length that it asks for, and answers where the next begins.
+fn play(file: &[u8], at: usize, memory: &mut [u8]) -> usize {
+    let header = field(file, at, b'\n');
+    let name = word(header, 0);
+    let size = io::count(number_in(header, 1) as isize, memory);
+    let from = past(file, at, b'\n');
+    let to = from + number_in(header, 2) as usize;
+    let reading = reader::read(part(file, from, to));
+    let refusal = reading.refusal;
+    show(name);
+    show_number(b"\tpolicy\t", reader::number_of(refusal));
+    show(b"\n");
+    steps(file, to, name, &mut memory[..size], reading.policy)
 }
 
-fn play_named(fd: i32, header: &[u8], memory: &mut [u8], text: usize) {
-    let end = lexer::find(header, 0, b' ');
-    if end <= header.len() {
-        play(fd, &header[..end], memory, text);
+fn play_all(file: &[u8]) {
+    let mut at = 0;
+    let mut left: u32 = 1000;
+    while 0 < left {
+        if file.len() <= at {
+            return;
+        }
+        let mut memory = [0u8; 16400];
+        at = play(file, at, &mut memory);
+        left -= 1;
     }
-}
-
-fn play_sized(fd: i32, header: &[u8], memory: &mut [u8], size: usize, text: usize) {
-    if size <= memory.len() {
-        play_named(fd, header, &mut memory[..size], text);
-    }
-}
-
-// One scenario, and whether there was one.
-fn next_scenario(fd: i32) -> bool {
-    let mut header = [0u8; 62];
-    let got = io::read_full(fd, &mut header);
-    if got < 62 {
-        return false;
-    }
-    let size = number_at(&header, 40) as usize;
-    let text = number_at(&header, 51) as usize;
-    let mut memory = buffer();
-    play_sized(fd, &header, &mut memory, size, text);
-    true
 }
 
 fn main() {
-    let fd = os::open_read(b"scenarios");
-    let mut left: u32 = 1000;
-    while 0 < left {
-        if !next_scenario(fd) {
-            return;
-        }
-        left -= 1;
-    }
+    let mut space = [0u8; FILE];
+    let n = load(b"scenarios", &mut space);
+    play_all(&space[..n]);
 }

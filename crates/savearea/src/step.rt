@@ -1,39 +1,19 @@
-// Registers, the counter and the state; a result, a fault.
-use crate::bytes::byte_at;
-use crate::bytes::get_half;
-use crate::bytes::get_word;
-use crate::bytes::put;
-use crate::bytes::put_half;
-use crate::bytes::put_word;
+// A step of the counter, a result, a fault.
 use crate::layout::COUNTER;
 use crate::layout::FAULT;
 use crate::layout::FAULTED;
 use crate::layout::IN_HANDLER;
-use crate::layout::READY;
 use crate::layout::STATE;
+use bytes::byte_at;
+use bytes::get_half;
+use bytes::put;
+use bytes::put_half;
+use bytes::put_word;
 use machine::Fault;
 ghost use mathlib.Core.Path.{_≡_};
-ghost use Rattle.machine.specs.Save.{register, counter, inHandler};
+ghost use Rattle.machine.specs.Save.{inHandler};
 ghost use Rattle.machine.specs.Faults.{faultNumber, faults};
-ghost use Rattle.machine.specs.Local.{isReady, advanced, resulted};
-
-pub fn get_register(s: &[u8], r: u32) -> u32
-    ensures { λ x. ⌜ x ≡ register (now (s .entry)) r ⌝ }
-{
-    get_word(s, r)
-}
-
-pub fn get_counter(s: &[u8]) -> u16
-    ensures { λ r. ⌜ r ≡ counter (now (s .entry)) ⌝ }
-{
-    get_half(s, COUNTER)
-}
-
-pub fn is_ready(s: &[u8]) -> bool
-    ensures { λ r. ⌜ r ≡ isReady (now (s .entry)) ⌝ }
-{
-    byte_at(s, STATE) == READY
-}
+ghost use Rattle.machine.specs.Local.{advanced, resulted};
 
 pub fn in_handler(s: &[u8]) -> bool
     ensures { λ r. ⌜ r ≡ inHandler (now (s .entry)) ⌝ }
@@ -44,7 +24,7 @@ pub fn in_handler(s: &[u8]) -> bool
 pub fn advance(s: &mut [u8])
     ensures { λ _. ⌜ now (s .exit) ≡ advanced (now (s .entry)) ⌝ }
 {
-    let at = get_counter(s) as u32;
+    let at = get_half(s, COUNTER) as u32;
     put_half(s, COUNTER, at + 4);
 }
 
@@ -55,7 +35,7 @@ pub fn put_result(s: &mut [u8], a: u32, x: u32)
     advance(s);
 }
 
-pub fn fault_number(f: Fault) -> u8
+fn fault_number(f: Fault) -> u8
     ensures { λ r. ⌜ r ≡ faultNumber f ⌝ }
 {
     match f {

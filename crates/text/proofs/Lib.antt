@@ -1,2 +1,2 @@
--- Laws of the definitions, one subject a file.
+-- Laws of the definitions, one subject a file; none speaks of code.
 pub mod Laws

@@ -1,6 +1,6 @@
 -- 01, "The policy text": "Lines end in hex 0A, the last one too. Fields are parted by one tab."
 use Prim.Native.Nat.{ℕ}
-use mathlib.Core.Bool.{Bool, cond}
+use mathlib.Core.Bool.{cond}
 use mathlib.Core.List.{List, [], _∷_}
 use lib.Dec.{eqb}
 

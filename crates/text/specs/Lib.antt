@@ -1,6 +1,17 @@
--- In reading order: how a text is cut, what a number is, what a line says, and what stands at a place.
+-- The policy text, in reading order.
+-- Texts written as such, and whether two byte strings are the same.
 pub mod Bytes
+-- How a text is cut into lines, and a line into fields.
 pub mod Cut
+-- What digits and letters write.
 pub mod Number
+-- What a line says, and the lines of a text.
 pub mod Lines
+-- What stands at a place of a text.
 pub mod Places
+-- The digits at a place.
+pub mod Digits
+-- What each reader finds at its place, and where it leaves the place.
+pub mod Readers
+-- What a line says by what the readers found.
+pub mod Said

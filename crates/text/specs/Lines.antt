@@ -1,7 +1,7 @@
 -- 01, "The policy text": "The record words are segment, partition, right, flow and slot", and the fields of each.
 -- Refusal 2, "unknown word, wrong fields, bad number or letters, no line end", is the case Bad.
 use Prim.Native.Nat.{ℕ}
-use mathlib.Core.Bool.{Bool, cond}
+use mathlib.Core.Bool.{cond}
 use mathlib.Core.List.{List, [], _∷_}
 use Rattle.text.specs.Bytes.{bytesOf, same}
 use Rattle.text.specs.Cut.{cut, fieldsOf, lineEnd}

@@ -1,2 +1,3 @@
 pub mod Reach
 pub mod Record
+pub mod Alone

@@ -1,9 +1,8 @@
 -- Memory after each step of a tick, with the save bytes from `from` on.
 use Prim.Native.Nat.{ℕ}
 use mathlib.Core.List.{List}
-use Rattle.machine.specs.declared.Instr.{Instr}
 use Rattle.machine.specs.declared.Decoded.{Decoded}
-use Rattle.machine.specs.Tick.{Seat, looks, loads, storesByte, acts, obeys, steps, sees, applied}
+use Rattle.machine.specs.Tick.{Seat, looks, loads, storesByte, obeys, steps, sees, applied}
 use Rattle.parts.specs.Parts.{savedAt, withSaved}
 
 module _ (S : Seat) where
@@ -12,9 +11,6 @@ module _ (S : Seat) where
 
   abbrev pub stored : ℕ → List ℕ → ℕ → ℕ → ℕ → List ℕ
   stored from memory a b c = applied S from (storesByte S (savedAt memory from) a b c) memory
-
-  abbrev pub acted : ℕ → List ℕ → Instr → List ℕ
-  acted from memory i = applied S from (acts S (savedAt memory from) (looks S memory) i) memory
 
   abbrev pub obeyed : ℕ → List ℕ → Decoded → List ℕ
   obeyed from memory d = applied S from (obeys S (savedAt memory from) (looks S memory) d) memory

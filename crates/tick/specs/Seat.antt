@@ -31,7 +31,7 @@ pub record Inside (base size : List ℕ) (segments row whole : ℕ) : Type 0 whe
   pub inside : (s : ℕ) → s < segments → getD base s 0 + getD size s 0 ≤ whole
 
 -- The code and save segments are there too, and the save segment has its size.
-pub record Fits (base size : List ℕ) (segments row code save whole : ℕ) : Type 0 where
+pub record Seated (base size : List ℕ) (segments row code save whole : ℕ) : Type 0 where
   pub every : Inside base size segments row whole
   pub code-there : code < segments
   pub save-there : save < segments

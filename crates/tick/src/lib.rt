@@ -7,57 +7,28 @@ mod storing;
 use crate::loading::load;
 use crate::reach::entry;
 use crate::storing::store;
+use local::act;
 use machine::Decoded;
 use machine::Fault;
 use machine::Instr;
-use parts::SAVED;
 use parts::fault;
 use parts::fetch;
 use parts::get_counter;
 use parts::interrupt;
 use parts::is_ready;
 use parts::takes_interrupt;
+use policy::SAVE_SIZE;
 ghost use mathlib.Core.Path.{_≡_};
 ghost use Prim.Native.Nat.{_+_, _≤_};
 ghost use lib.ListN.{length, getD};
+ghost use Rattle.policy.specs.Limits.{saveSize};
 ghost use Rattle.machine.specs.Local.{isAble};
-ghost use Rattle.machine.specs.Tick.{ticked};
+ghost use Rattle.machine.specs.Tick.{tickOf};
 ghost use Rattle.parts.specs.Parts.{savedAt};
-ghost use Rattle.tick.specs.Seat.{seatOf, Inside, Fits};
-ghost use Rattle.tick.specs.Done.{acted, obeyed, stepped};
+ghost use Rattle.tick.specs.Seat.{seatOf, Inside, Seated};
+ghost use Rattle.tick.specs.Done.{obeyed, stepped};
 
-fn execute<'a>(
-    memory: &mut [u8],
-    base: &'a [u16; 32],
-    size: &'a [u16; 32],
-    rights: &'a [u8; 256],
-    segments: u8,
-    row: u16,
-    from: usize,
-    i: Instr,
-)
-    requires { ⌜ from + 44 ≤ length (now memory) ⌝ }
-    requires { ⌜ Inside (now base) (now size) segments row (length (now memory)) ⌝ }
-    ensures { λ _. ⌜ now (memory .exit) ≡ acted (seatOf (now (base .entry)) (now (size .entry)) (now (rights .entry)) segments row) from (now (memory .entry)) i ⌝ }
-{
-    let to = from + SAVED;
-    match i {
-        Instr::Halt => local::halt(&mut memory[from..to]),
-        Instr::Set(a, n) => local::set_register(&mut memory[from..to], a, n),
-        Instr::Add(a, b, c) => local::add(&mut memory[from..to], a, b, c),
-        Instr::Sub(a, b, c) => local::subtract(&mut memory[from..to], a, b, c),
-        Instr::And(a, b, c) => local::and(&mut memory[from..to], a, b, c),
-        Instr::Xor(a, b, c) => local::xor(&mut memory[from..to], a, b, c),
-        Instr::Shift(a, b, c) => local::shift(&mut memory[from..to], a, b, c),
-        Instr::Load(a, b, c) => load(memory, base, size, rights, segments, row, from, a, b, c),
-        Instr::Store(a, b, c) => store(memory, base, size, rights, segments, row, from, a, b, c),
-        Instr::Jump(a, n) => local::jump(&mut memory[from..to], a, n),
-        Instr::Wait => local::wait(&mut memory[from..to]),
-        Instr::Listen(a, n) => local::listen(&mut memory[from..to], a, n),
-        Instr::Back => local::back(&mut memory[from..to]),
-    }
-}
-
+// A load and a store are lent a segment; every other instruction the save bytes alone.
 fn obey<'a>(
     memory: &mut [u8],
     base: &'a [u16; 32],
@@ -68,13 +39,21 @@ fn obey<'a>(
     from: usize,
     d: Decoded,
 )
-    requires { ⌜ from + 44 ≤ length (now memory) ⌝ }
+    requires { ⌜ from + saveSize ≤ length (now memory) ⌝ }
     requires { ⌜ Inside (now base) (now size) segments row (length (now memory)) ⌝ }
     ensures { λ _. ⌜ now (memory .exit) ≡ obeyed (seatOf (now (base .entry)) (now (size .entry)) (now (rights .entry)) segments row) from (now (memory .entry)) d ⌝ }
 {
-    match d {
-        Decoded::Runs(i) => execute(memory, base, size, rights, segments, row, from, i),
-        Decoded::Bad => fault(memory, from, Fault::BadInstruction),
+    let Decoded::Runs(i) = d else {
+        fault(memory, from, Fault::BadInstruction);
+        return;
+    };
+    match i {
+        Instr::Load(a, b, c) => load(memory, base, size, rights, segments, row, from, a, b, c),
+        Instr::Store(a, b, c) => store(memory, base, size, rights, segments, row, from, a, b, c),
+        _ => {
+            let to = from + SAVE_SIZE;
+            act(&mut memory[from..to], i);
+        }
     }
 }
 
@@ -88,7 +67,7 @@ fn step<'a>(
     code: u8,
     save: u8,
 )
-    requires { ⌜ Fits (now base) (now size) segments row code save (length (now memory)) ⌝ }
+    requires { ⌜ Seated (now base) (now size) segments row code save (length (now memory)) ⌝ }
     ensures { λ _. ⌜ now (memory .exit) ≡ stepped (seatOf (now (base .entry)) (now (size .entry)) (now (rights .entry)) segments row) code save (now (memory .entry)) ⌝ }
 {
     let from = entry(base, save as u32);
@@ -115,10 +94,10 @@ pub fn tick<'a>(
     code: u8,
     save: u8,
 ) -> bool
-    requires { ⌜ Fits (now base) (now size) segments row code save (length (now memory)) ⌝ }
+    requires { ⌜ Seated (now base) (now size) segments row code save (length (now memory)) ⌝ }
     ensures { λ r.
         ⌜
-        (now (memory .exit) ≡ ticked (seatOf (now (base .entry)) (now (size .entry)) (now (rights .entry)) segments row) code save (now (memory .entry)))
+        (now (memory .exit) ≡ tickOf (seatOf (now (base .entry)) (now (size .entry)) (now (rights .entry)) segments row) code save (now (memory .entry)))
         × (r ≡ isAble (savedAt (now (memory .entry)) (getD (now (base .entry)) save 0)))
         ⌝ }
 {

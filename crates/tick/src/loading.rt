@@ -8,6 +8,7 @@ use parts::load_from;
 ghost use mathlib.Core.Path.{_≡_};
 ghost use Prim.Native.Nat.{_+_, _≤_};
 ghost use lib.ListN.{length};
+ghost use Rattle.policy.specs.Limits.{saveSize};
 ghost use Rattle.tick.specs.Seat.{seatOf, Inside};
 ghost use Rattle.tick.specs.Done.{loaded};
 
@@ -23,7 +24,7 @@ pub(crate) fn load<'a>(
     b: u32,
     c: u32,
 )
-    requires { ⌜ from + 44 ≤ length (now memory) ⌝ }
+    requires { ⌜ from + saveSize ≤ length (now memory) ⌝ }
     requires { ⌜ Inside (now base) (now size) segments row (length (now memory)) ⌝ }
     ensures { λ _. ⌜ now (memory .exit) ≡ loaded (seatOf (now (base .entry)) (now (size .entry)) (now (rights .entry)) segments row) from (now (memory .entry)) a b c ⌝ }
 {

@@ -1,4 +1,3 @@
-pub mod Loops
 pub mod Zeros
 pub mod Rows
 pub mod Bytes

@@ -1,10 +1,9 @@
 -- The record of arrays that are lent one by one; a test is given those that it reads, and the others are empty.
 use Prim.Native.Nat.{ℕ}
 use mathlib.Core.Bool.{Bool, _&&_}
-use mathlib.Core.List.{List, []}
+use mathlib.Core.List.{List}
 use Rattle.policy.specs.declared.record.Policy.{Policy}
 use Rattle.policy.specs.Record.{viewOf}
-use Rattle.policy.specs.View.{View}
 use Rattle.policy.specs.Limits.{single}
 use Rattle.policy.specs.Refusals.{isAccepted}
 use Rattle.policy.specs.Read.{wholeRefusal}
@@ -26,25 +25,6 @@ recordOf counts base size code save owner ticks rights flows =
       rights = rights;
       flows = flows;
     }
-
-abbrev countsOf : ℕ → ℕ → Counts
-countsOf segments partitions = record { segments = segments; partitions = partitions; slots = 0 }
-
--- Where the segments lie.
-abbrev pub placesOf : List ℕ → List ℕ → View
-placesOf base size = viewOf (recordOf (countsOf 0 0) base size [] [] [] [] [] [])
-
--- The partitions, and what their segments are held to.
-abbrev pub partitionsOf : ℕ → List ℕ → List ℕ → List ℕ → View
-partitionsOf segments size code save = viewOf (recordOf (countsOf segments 0) [] size code save [] [] [] [])
-
--- What a right or a flow line may name.
-abbrev pub namesOf : ℕ → ℕ → List ℕ → View
-namesOf segments partitions save = viewOf (recordOf (countsOf segments partitions) [] [] [] save [] [] [] [])
-
--- The schedule.
-abbrev pub slotsOf : ℕ → List ℕ → List ℕ → View
-slotsOf partitions owner ticks = viewOf (recordOf (countsOf 0 partitions) [] [] [] [] owner ticks [] [])
 
 -- The test of soundness without that of the arrays' lengths.
 abbrev pub entriesSound : Policy → Bool

@@ -1,10 +1,8 @@
 // Whether a record is one that an accepted text gives, decided on the record alone. Any value is answered: counts past
 // the limits and stray bytes included.
 mod arrays;
-mod partitions;
+mod entries;
 mod rights;
-mod segments;
-mod slots;
 mod test;
 
 pub use test::passes_test;

@@ -1,4 +1,5 @@
-// Rules 4 and 5 for the rights and the flow lines of a record, a row of 32 bytes at once. The rows past the counts must be 0.
+// Rules 4 and 5 for the rights and the flow lines of a record, a row of 32 bytes at once. The rows past the counts must
+// be 0.
 ghost use Prim.Native.Nat.{_≤_};
 ghost use mathlib.Core.Path.{_≡_};
 ghost use mathlib.Core.List.{[]};
@@ -8,10 +9,10 @@ ghost use Rattle.policy.specs.Below.{eachBelow};
 ghost use Rattle.policy.specs.Clash.{isSave};
 ghost use Rattle.policy.specs.Limits.{single};
 ghost use Rattle.policy.specs.Sound.{goodFlow, goodRight};
-ghost use Rattle.validate.specs.Parts.{namesOf};
+ghost use Rattle.linerules.specs.Parts.{counted, placed};
 ghost use Rattle.validate.specs.Rows.{rowGood};
 use crate::arrays::bytes_unused;
-use wholerules::byte_at;
+use bytes::byte_at;
 
 // Whether no byte is over the most. No early exit: the compiler then looks at many at once.
 fn none_over(a: &[u8], most: u8) -> bool
@@ -50,15 +51,12 @@ fn off_saves<'a>(save: &'a [u8], row: &'a [u8], partitions: u8) -> bool
 // Whether right lines may give a partition's row.
 fn right_row_good<'a>(save: &'a [u8], row: &'a [u8], segments: u8, partitions: u8) -> bool
     ensures { λ r.
-        ⌜ r ≡ rowGood 3 segments (isSave (namesOf segments partitions (now (save .entry)))) (now (row .entry)) ⌝ }
+        ⌜
+        r ≡ rowGood 3 segments (isSave (placed segments partitions [] [] [] (now (save .entry))))
+        (now (row .entry))
+        ⌝ }
 {
-    if !none_over(row, 3) {
-        return false;
-    }
-    if !bytes_unused(row, segments as usize) {
-        return false;
-    }
-    off_saves(save, row, partitions)
+    none_over(row, 3) & bytes_unused(row, segments as usize) & off_saves(save, row, partitions)
 }
 
 pub(crate) fn rights_good<'a>(
@@ -71,7 +69,8 @@ pub(crate) fn rights_good<'a>(
     ensures { λ r.
         ⌜
         r ≡ eachBelow 256
-        (λ k. goodRight single (namesOf segments partitions (now (save .entry))) k (getD (now (rights .entry)) k 0))
+        (λ k. goodRight single (placed segments partitions [] [] [] (now (save .entry))) k
+        (getD (now (rights .entry)) k 0))
         ⌝ }
 {
     let mut p: u8 = 0;
@@ -90,18 +89,13 @@ pub(crate) fn rights_good<'a>(
 fn flow_row_good(row: &[u8], segments: u8, s: u8) -> bool
     ensures { λ r. ⌜ r ≡ rowGood 1 segments (eqb s) (now (row .entry)) ⌝ }
 {
-    if !none_over(row, 1) {
-        return false;
-    }
-    if !bytes_unused(row, segments as usize) {
-        return false;
-    }
-    byte_at(row, s as usize) == 0
+    none_over(row, 1) & bytes_unused(row, segments as usize) & (byte_at(row, s as usize) == 0)
 }
 
 pub(crate) fn flows_good(flows: &[u8], segments: u8) -> bool
     requires { ⌜ (segments ≤ 32) × (length (now flows) ≡ 1024) ⌝ }
-    ensures { λ r. ⌜ r ≡ eachBelow 1024 (λ k. goodFlow single (namesOf segments 0 []) k (getD (now (flows .entry)) k 0)) ⌝ }
+    ensures { λ r.
+        ⌜ r ≡ eachBelow 1024 (λ k. goodFlow single (counted segments 0 0) k (getD (now (flows .entry)) k 0)) ⌝ }
 {
     let mut s: u8 = 0;
     while s < segments {

@@ -4,20 +4,20 @@ ghost use mathlib.Core.Path.{_≡_};
 ghost use mathlib.Core.List.{[]};
 ghost use lib.ListN.{length};
 ghost use Rattle.policy.specs.Limits.{single};
-ghost use Rattle.policy.specs.Read.{wholeRefusal};
-ghost use Rattle.policy.specs.Record.{viewOf};
-ghost use Rattle.policy.specs.Refusals.{isAccepted};
-ghost use Rattle.policy.specs.Sound.{countsFit, linesHold, soundOf, unusedZero};
+ghost use Rattle.policy.specs.Sound.{linesHold, soundOf, unusedZero};
 ghost use Rattle.validate.specs.Parts.{entriesSound, recordOf};
 use crate::arrays::bytes_unused;
 use crate::arrays::halves_unused;
-use crate::partitions::partitions_good;
+use crate::entries::partitions_good;
+use crate::entries::segments_good;
+use crate::entries::slots_good;
 use crate::rights::flows_good;
 use crate::rights::rights_good;
-use crate::segments::segments_good;
-use crate::slots::slots_good;
+use linerules::is_accepted;
+use policy::PARTITIONS;
 use policy::Policy;
-use policy::Refusal;
+use policy::SEGMENTS;
+use policy::SLOTS;
 use wholerules::lent_refusal;
 
 // How many segments, partitions and slots a record has.
@@ -25,18 +25,6 @@ struct Counts {
     segments: u8,
     partitions: u8,
     slots: u8,
-}
-
-fn counts_fit(counts: Counts) -> bool
-    ensures { λ r. ⌜ r ≡ countsFit single (recordOf counts [] [] [] [] [] [] [] []) ⌝ }
-{
-    if 32 < counts.segments {
-        return false;
-    }
-    if 8 < counts.partitions {
-        return false;
-    }
-    counts.slots <= 32
 }
 
 // Whether the entries past each count are 0.
@@ -56,22 +44,12 @@ fn unused_zero<'a>(
         (now (save .entry)) (now (owner .entry)) (now (ticks .entry)) [] [])
         ⌝ }
 {
-    if !halves_unused(base, counts.segments as usize) {
-        return false;
-    }
-    if !halves_unused(size, counts.segments as usize) {
-        return false;
-    }
-    if !bytes_unused(code, counts.partitions as usize) {
-        return false;
-    }
-    if !bytes_unused(save, counts.partitions as usize) {
-        return false;
-    }
-    if !bytes_unused(owner, counts.slots as usize) {
-        return false;
-    }
-    halves_unused(ticks, counts.slots as usize)
+    halves_unused(base, counts.segments as usize)
+        & halves_unused(size, counts.segments as usize)
+        & bytes_unused(code, counts.partitions as usize)
+        & bytes_unused(save, counts.partitions as usize)
+        & bytes_unused(owner, counts.slots as usize)
+        & halves_unused(ticks, counts.slots as usize)
 }
 
 // Whether each entry stands where a line that rules 4 and 5 let pass would put it.
@@ -95,63 +73,11 @@ fn lines_hold<'a>(
         (now (save .entry)) (now (owner .entry)) (now (ticks .entry)) (now (rights .entry)) (now (flows .entry)))
         ⌝ }
 {
-    if !segments_good(base, size, counts.segments) {
-        return false;
-    }
-    if !partitions_good(size, code, save, counts.segments, counts.partitions) {
-        return false;
-    }
-    if !rights_good(save, rights, counts.segments, counts.partitions) {
-        return false;
-    }
-    if !flows_good(flows, counts.segments) {
-        return false;
-    }
-    slots_good(owner, ticks, counts.partitions, counts.slots)
-}
-
-fn is_accepted(refusal: Refusal) -> bool
-    ensures { λ r. ⌜ r ≡ isAccepted refusal ⌝ }
-{
-    match refusal {
-        Refusal::Accepted => true,
-        Refusal::TooLong => false,
-        Refusal::Malformed(_) => false,
-        Refusal::OutOfOrder(_) => false,
-        Refusal::OutOfRange(_) => false,
-        Refusal::Clash(_) => false,
-        Refusal::Incomplete => false,
-        Refusal::CodeUnreadable => false,
-        Refusal::FlowMissing => false,
-    }
-}
-
-// Whether rules 6, 7 and 8 let the whole pass.
-fn whole_holds<'a>(
-    counts: Counts,
-    code: &'a [u8],
-    save: &'a [u8],
-    rights: &'a [u8],
-    flows: &'a [u8],
-) -> bool
-    requires { ⌜ (counts .segments ≤ 32) × (counts .partitions ≤ 8) ⌝ }
-    ensures { λ r.
-        ⌜
-        r ≡ isAccepted
-        (wholeRefusal
-        (viewOf
-        (recordOf counts [] [] (now (code .entry)) (now (save .entry)) [] [] (now (rights .entry)) (now (flows .entry)))))
-        ⌝ }
-{
-    is_accepted(lent_refusal(
-        counts.segments,
-        counts.partitions,
-        counts.slots,
-        code,
-        save,
-        rights,
-        flows,
-    ))
+    segments_good(base, size, counts.segments)
+        & partitions_good(size, code, save, counts.segments, counts.partitions)
+        & rights_good(save, rights, counts.segments, counts.partitions)
+        & flows_good(flows, counts.segments)
+        & slots_good(owner, ticks, counts.partitions, counts.slots)
 }
 
 // The test on lent arrays, which have the lengths of their types.
@@ -174,16 +100,18 @@ fn lent_passes<'a>(
         (now (owner .entry)) (now (ticks .entry)) (now (rights .entry)) (now (flows .entry)))
         ⌝ }
 {
-    if !counts_fit(counts) {
+    let segments = counts.segments;
+    let partitions = counts.partitions;
+    let slots = counts.slots;
+    let fit = (segments <= SEGMENTS) & (partitions <= PARTITIONS) & (slots <= SLOTS);
+    // The tests of the entries rest on counts within the limits.
+    if !fit {
         return false;
     }
-    if !unused_zero(counts, base, size, code, save, owner, ticks) {
-        return false;
-    }
-    if !lines_hold(counts, base, size, code, save, owner, ticks, rights, flows) {
-        return false;
-    }
-    whole_holds(counts, code, save, rights, flows)
+    let unused = unused_zero(counts, base, size, code, save, owner, ticks);
+    let lines = lines_hold(counts, base, size, code, save, owner, ticks, rights, flows);
+    let whole = lent_refusal(segments, partitions, slots, code, save, rights, flows);
+    unused & lines & is_accepted(whole)
 }
 
 // Whether some accepted text gives the record.

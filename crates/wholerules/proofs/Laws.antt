@@ -1,5 +1,3 @@
-pub mod Loops
-pub mod Exchange
 pub mod Masks
 pub mod Gather
 pub mod Filled

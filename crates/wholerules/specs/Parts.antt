@@ -1,6 +1,5 @@
 -- The view of a record of which only what these rules ask is known: the counts, the partitions' segments, the rights, the flow lines.
 use Prim.Native.Nat.{ℕ}
-use mathlib.Core.Bool.{Bool, not}
 use mathlib.Core.List.{List, []}
 use Rattle.policy.specs.Record.{viewOf}
 use Rattle.policy.specs.View.{View}
@@ -25,7 +24,3 @@ partsOf segments partitions slots code save rights flows =
 -- What partitions may reach, and the flow lines.
 abbrev pub reachOf : List ℕ → List ℕ → List ℕ → View
 reachOf save rights flows = partsOf 0 0 0 [] save rights flows
-
--- Rule 7 for one partition.
-abbrev pub codeUnread : View → ℕ → Bool
-codeUnread v p = not (v .reads p (v .code p))

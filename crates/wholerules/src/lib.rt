@@ -5,6 +5,5 @@ mod flows;
 mod masks;
 mod rules;
 
-pub use access::byte_at;
 pub use rules::lent_refusal;
 pub use rules::whole_refusal;

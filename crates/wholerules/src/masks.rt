@@ -27,7 +27,7 @@ fn reads_mask<'a>(save: &'a [u8], rights: &'a [u8], segments: u8, p: u8) -> u32
     mask
 }
 
-// Whether rule 8 asks for no line from s to t: it stands there, or s is t.
+// Whether rule 8 asks for no line from s to t: it stands there, or s is t. A branch, as in may_read.
 fn flows_in(flows: &[u8], t: u8, s: u8) -> bool
     ensures { λ r. ⌜ r ≡ flowsIn (reachOf [] [] (now (flows .entry))) t s ⌝ }
 {

@@ -4,41 +4,22 @@ ghost use mathlib.Core.Path.{_≡_};
 ghost use mathlib.Core.List.{[]};
 ghost use Rattle.policy.specs.Read.{wholeRefusal};
 ghost use Rattle.policy.specs.Record.{viewOf};
-ghost use Rattle.policy.specs.Whole.{codeUnreadable, incomplete};
-ghost use Rattle.wholerules.specs.Parts.{codeUnread, partsOf};
-use crate::access::byte_at;
+ghost use Rattle.policy.specs.Whole.{codeUnreadable};
+ghost use Rattle.wholerules.specs.Parts.{partsOf};
 use crate::access::gives_read;
 use crate::access::pair_at;
 use crate::flows::flow_missing;
+use bytes::byte_at;
 use policy::Policy;
 use policy::Refusal;
-
-fn is_incomplete(segments: u8, partitions: u8, slots: u8) -> bool
-    ensures { λ r. ⌜ r ≡ incomplete (partsOf segments partitions slots [] [] [] []) ⌝ }
-{
-    if segments == 0 {
-        return true;
-    }
-    if partitions == 0 {
-        return true;
-    }
-    slots == 0
-}
-
-// Whether p lacks r on its code segment.
-fn code_unread<'a>(code: &'a [u8], rights: &'a [u8], p: u8) -> bool
-    ensures { λ r. ⌜ r ≡ codeUnread (partsOf 0 0 0 (now (code .entry)) [] (now (rights .entry)) []) p ⌝ }
-{
-    let s = byte_at(code, p as usize);
-    !gives_read(pair_at(rights, p, s))
-}
 
 fn code_unreadable<'a>(code: &'a [u8], rights: &'a [u8], partitions: u8) -> bool
     ensures { λ r. ⌜ r ≡ codeUnreadable (partsOf 0 partitions 0 (now (code .entry)) [] (now (rights .entry)) []) ⌝ }
 {
     let mut p = 0;
     while p < partitions {
-        if code_unread(code, rights, p) {
+        let s = byte_at(code, p as usize);
+        if !gives_read(pair_at(rights, p, s)) {
             return true;
         }
         p += 1;
@@ -64,7 +45,7 @@ pub fn lent_refusal<'a>(
         (now (flows .entry)))
         ⌝ }
 {
-    if is_incomplete(segments, partitions, slots) {
+    if (segments == 0) | (partitions == 0) | (slots == 0) {
         return Refusal::Incomplete;
     }
     if code_unreadable(code, rights, partitions) {

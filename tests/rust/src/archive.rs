@@ -1,40 +1,57 @@
-//! The proved kernel, linked from the static library through its C boundary.
+//! The proved kernel, linked from the static library through its C boundary; for the benchmark also an earlier one, whose functions have been renamed.
 
 use crate::boundary::{Kernel, Place, Policy, ReadResult, RunResult};
 
-// Not bundled into the Rust library, so that link-time optimisation does not look into it.
-#[link(name = "boundary", kind = "static", modifiers = "-bundle")]
-extern "C" {
-    fn sk_read(text: *const u8, text_len: usize) -> ReadResult;
-    fn sk_sound(policy: Policy) -> u32;
-    fn sk_start(policy: Policy, memory: *mut u8, memory_len: usize) -> RunResult;
-    fn sk_pend(policy: Policy, memory: *mut u8, memory_len: usize, partition: u32, line: u32) -> u32;
-    fn sk_run(policy: Policy, memory: *mut u8, memory_len: usize, place: Place, ticks: u32) -> RunResult;
+/// A kernel behind the functions of a static library, which have this prefix.
+macro_rules! linked {
+    ($kernel:ident, $name:literal, $library:literal, $prefix:literal) => {
+        pub struct $kernel;
+
+        const _: () = {
+            // Not bundled into the Rust library, so that link-time optimisation does not look into it.
+            #[link(name = $library, kind = "static", modifiers = "-bundle")]
+            extern "C" {
+                #[link_name = concat!($prefix, "sk_read")]
+                fn sk_read(text: *const u8, text_len: usize) -> ReadResult;
+                #[link_name = concat!($prefix, "sk_sound")]
+                fn sk_sound(policy: Policy) -> u32;
+                #[link_name = concat!($prefix, "sk_start")]
+                fn sk_start(policy: Policy, memory: *mut u8, memory_len: usize) -> RunResult;
+                #[link_name = concat!($prefix, "sk_pend")]
+                fn sk_pend(policy: Policy, memory: *mut u8, memory_len: usize, partition: u32, line: u32) -> u32;
+                #[link_name = concat!($prefix, "sk_run")]
+                fn sk_run(policy: Policy, memory: *mut u8, memory_len: usize, place: Place, ticks: u32) -> RunResult;
+            }
+
+            // Named here so that a new library is linked anew.
+            const _: &[u8] = include_bytes!(concat!("../../../target/staticlib/lib", $library, ".a"));
+
+            // In each call the pointer and the length are those of one Rust slice, lent for the length of the call.
+            impl Kernel for $kernel {
+                fn name(&self) -> &'static str {
+                    $name
+                }
+                fn read(&self, text: &[u8]) -> ReadResult {
+                    unsafe { sk_read(text.as_ptr(), text.len()) }
+                }
+                fn sound(&self, policy: &Policy) -> u32 {
+                    unsafe { sk_sound(*policy) }
+                }
+                fn start(&self, policy: &Policy, memory: &mut [u8]) -> RunResult {
+                    unsafe { sk_start(*policy, memory.as_mut_ptr(), memory.len()) }
+                }
+                fn pend(&self, policy: &Policy, memory: &mut [u8], partition: u32, line: u32) -> u32 {
+                    unsafe { sk_pend(*policy, memory.as_mut_ptr(), memory.len(), partition, line) }
+                }
+                fn run(&self, policy: &Policy, memory: &mut [u8], place: Place, ticks: u32) -> RunResult {
+                    unsafe { sk_run(*policy, memory.as_mut_ptr(), memory.len(), place, ticks) }
+                }
+            }
+        };
+    };
 }
 
-/// Named here so that a new library is linked anew.
-const _: &[u8] = include_bytes!("../../../target/staticlib/libboundary.a");
+linked!(Archive, "archive", "boundary", "");
 
-pub struct Archive;
-
-// In each call the pointer and the length are those of one Rust slice, lent for the length of the call.
-impl Kernel for Archive {
-    fn name(&self) -> &'static str {
-        "archive"
-    }
-    fn read(&self, text: &[u8]) -> ReadResult {
-        unsafe { sk_read(text.as_ptr(), text.len()) }
-    }
-    fn sound(&self, policy: &Policy) -> u32 {
-        unsafe { sk_sound(*policy) }
-    }
-    fn start(&self, policy: &Policy, memory: &mut [u8]) -> RunResult {
-        unsafe { sk_start(*policy, memory.as_mut_ptr(), memory.len()) }
-    }
-    fn pend(&self, policy: &Policy, memory: &mut [u8], partition: u32, line: u32) -> u32 {
-        unsafe { sk_pend(*policy, memory.as_mut_ptr(), memory.len(), partition, line) }
-    }
-    fn run(&self, policy: &Policy, memory: &mut [u8], place: Place, ticks: u32) -> RunResult {
-        unsafe { sk_run(*policy, memory.as_mut_ptr(), memory.len(), place, ticks) }
-    }
-}
+#[cfg(feature = "before")]
+linked!(Before, "before", "before", "before_");

@@ -5,9 +5,9 @@ use Rattle.policy.specs.View.{View}
 use Rattle.policy.specs.Lawful.{Lawful}
 use Rattle.machine.specs.Machine.{State, Stands, next}
 use Rattle.machine.proofs.OneTick.{next-stands}
-use Rattle.calls.specs.Run.{ticked}
+use Rattle.calls.specs.Run.{afterTicks}
 
-pub ticked-stands : (limits : Limits) (v : View) (n : ℕ) (x : State) → Lawful limits v → Stands limits v x → Stands limits v (ticked v n x)
-unfolding ticked
-ticked-stands limits v zero x w s = s
-ticked-stands limits v (suc n) x w s = ticked-stands limits v n (next v x) w (next-stands limits v w x s)
+pub ticks-stand : (limits : Limits) (v : View) (n : ℕ) (x : State) → Lawful limits v → Stands limits v x → Stands limits v (afterTicks v n x)
+unfolding afterTicks
+ticks-stand limits v zero x w s = s
+ticks-stand limits v (suc n) x w s = ticks-stand limits v n (next v x) w (next-stands limits v w x s)

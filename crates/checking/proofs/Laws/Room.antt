@@ -11,9 +11,8 @@ use Rattle.policy.specs.Record.{viewOf, givesRead, givesWrite}
 use Rattle.policy.specs.Refusals.{isAccepted, numberOf, lineNumberOf}
 use Rattle.report.specs.Report.{acceptedRow, segmentRow, segmentRows, refusedRow, reportOfReading, readMask, writeMask}
 use Rattle.report.specs.Reportable.{Reportable}
-use Rattle.report.proofs.Laws.Digits.{digits-width}
-use Rattle.report.proofs.Laws.Sums.{mask-small, reads-same, writes-same}
-use Rattle.report.proofs.Laws.Rows.{accepted-length, segment-length, number-small}
+use Rattle.report.proofs.Laws.Masks.{mask-small, reads-same, writes-same}
+use Rattle.report.proofs.Laws.Rows.{accepted-length, segment-length, refused-length, number-small}
 
 module _ (p : Policy) (few : p .partitions ≤ 8) where
   row-length : (s : ℕ) → s < 100 → length (segmentRow (viewOf p) s) ≤ 19
@@ -41,10 +40,4 @@ report-fits r h = go (isAccepted (r .refusal))
           accepted-length (viewOf (r .policy)) (h .counts),
           rows-length (r .policy) (h .counts .few-partitions) (r .policy .segments) (omega (arith, h .counts .few-segments)),
         ))
-    go false =
-        simp length-append
-        (omega (
-          arith,
-          digits-width 0 (numberOf (r .refusal)) (number-small (r .refusal)),
-          digits-width 4 (lineNumberOf (r .refusal)) (h .line-short),
-        ))
+    go false = omega (arith, refused-length (numberOf (r .refusal)) (lineNumberOf (r .refusal)) (number-small (r .refusal)) (h .line-short))

@@ -33,7 +33,19 @@ decode-requires c κs = search needs
 
 returns : tie.Need-returns
 unfolding fetched
-returns c = cc
+returns c =
+    let fourth = c .before in
+    let third = fourth .before in
+    let second = third .before in
+    let first = second .before in
+    rw (
+      c .decode .ensures,
+      fourth .byte-at4 .ensures,
+      third .byte-at3 .ensures,
+      second .byte-at2 .ensures,
+      first .byte-at .ensures,
+      first .before .wide .ensures,
+    )
 
 pub fetch-spec : {M : Type 1} → statement M
 fetch-spec =

@@ -16,13 +16,16 @@ use Rattle.policy.specs.Sound.{soundOf}
 use Rattle.policy.proofs.Lawful.{lawful}
 use Rattle.machine.specs.declared.Place.{Place}
 use Rattle.machine.specs.Machine.{State, Stands, seat, next}
+use Rattle.machine.specs.Place.{placeOf}
+use Rattle.machine.specs.Tick.{tickOf}
 use Rattle.machine.proofs.Laws.Places.{slot-there, used-below}
-use Rattle.tick.specs.Seat.{Fits}
-use Rattle.tick.proofs.Laws.Record.{record-fits}
-use Rattle.calls.specs.Run.{stateOf, ticked}
-use Rattle.calls.proofs.Laws.Ticks.{ticked-stands}
-use Rattle.kernel.specs.Stretch.{tickedBy, movedBy}
-use Rattle.kernel.proofs.Laws.Stretch.{ticked-stretch}
+use Rattle.tick.specs.Seat.{Seated}
+use Rattle.tick.proofs.Laws.Record.{record-seated}
+use Rattle.calls.specs.Run.{stateOf, afterTicks}
+use Rattle.calls.proofs.Laws.Ticks.{ticks-stand}
+use Rattle.schedule.specs.Places.{movedBy}
+use Rattle.schedule.proofs.Laws.Places.{moved-within}
+use Rattle.kernel.specs.Stretch.{tickedBy}
 
 -- The partition of the present slot.
 abbrev pub ownerOf : Policy → Place → ℕ
@@ -30,16 +33,28 @@ ownerOf p here = getD (p .owner) (here .slot) 0
 
 pub record Reached (p : Policy) (x : State) (m : List ℕ) (here : Place) (i : ℕ) : Type 0 where
   pub stands : Stands single (viewOf p) (stateOf m here)
-  pub state : stateOf m here ≡ ticked (viewOf p) i x
+  pub state : stateOf m here ≡ afterTicks (viewOf p) i x
 
 pub reached-none : (p : Policy) (m : List ℕ) (here : Place) → Stands single (viewOf p) (stateOf m here) → Reached p (stateOf m here) m here 0
-unfolding ticked
+unfolding afterTicks
 reached-none p m here s = record { stands = s; state = refl }
 
-ticked-add : (v : View) (i n : ℕ) (x : State) → ticked v (i + n) x ≡ ticked v n (ticked v i x)
-unfolding ticked
-ticked-add v zero n x = rw zero-add
-ticked-add v (suc i) n x = rw suc-add (ticked-add v i n (next v x))
+ticks-add : (v : View) (i n : ℕ) (x : State) → afterTicks v (i + n) x ≡ afterTicks v n (afterTicks v i x)
+unfolding afterTicks
+ticks-add v zero n x = rw zero-add
+ticks-add v (suc i) n x = rw suc-add (ticks-add v i n (next v x))
+
+-- In one slot, ticks of a Run are ticks of the slot's partition.
+ticks-stretch : (v : View) (n : ℕ) (m : List ℕ) (here : Place) → here .used + n ≤ v .ticks (here .slot)
+    → afterTicks v n (stateOf m here)
+    ≡ stateOf (tickedBy (seat v (v .owner (here .slot))) (v .code (v .owner (here .slot))) (v .save (v .owner (here .slot))) n m) (movedBy v n here)
+unfolding afterTicks next tickedBy movedBy
+ticks-stretch v zero m here h = refl
+ticks-stretch v (suc zero) m here h = refl
+ticks-stretch v (suc (suc n)) m here h =
+    let p = v .owner (here .slot) in
+    rw (moved-within v here (omega arith))
+    (ticks-stretch v (suc n) (tickOf (seat v p) (v .code p) (v .save p) m) (placeOf (here .slot) (here .used + 1)) (omega arith))
 
 module _ (p : Policy) (sound : soundOf p ≡ true) (x : State) (m : List ℕ) (here : Place) (i : ℕ) (r : Reached p x m here i) where
   w : Lawful single (viewOf p)
@@ -65,8 +80,8 @@ module _ (p : Policy) (sound : soundOf p ≡ true) (x : State) (m : List ℕ) (h
   pub owner-below : ownerOf p here < 8
   owner-below = omega (arith, w .few-partitions, owner-in)
 
-  pub tick-fits : Fits (p .base) (p .size) (p .segments) (32 * ownerOf p here) (getD (p .code) (ownerOf p here) 0) (getD (p .save) (ownerOf p here) 0) (length m)
-  tick-fits = rw (r .stands .whole) (record-fits p (ownerOf p here) w owner-in)
+  pub tick-fits : Seated (p .base) (p .size) (p .segments) (32 * ownerOf p here) (getD (p .code) (ownerOf p here) 0) (getD (p .save) (ownerOf p here) 0) (length m)
+  tick-fits = rw (r .stands .whole) (record-seated p (ownerOf p here) w owner-in)
 
   pub reached-more : (count : ℕ) → here .used + count ≤ getD (p .ticks) (here .slot) 0 → (m′ : List ℕ) (here′ : Place)
       → m′ ≡ tickedBy (seat (viewOf p) (ownerOf p here)) (getD (p .code) (ownerOf p here) 0) (getD (p .save) (ownerOf p here) 0) count m
@@ -74,8 +89,8 @@ module _ (p : Policy) (sound : soundOf p ≡ true) (x : State) (m : List ℕ) (h
       → Reached p x m′ here′ (i + count)
   reached-more count h m′ here′ e f =
       let v = viewOf p in
-      let steps : stateOf m′ here′ ≡ ticked v count (stateOf m here) = rw (e, f) (sym (ticked-stretch v count m here h)) in
+      let steps : stateOf m′ here′ ≡ afterTicks v count (stateOf m here) = rw (e, f) (sym (ticks-stretch v count m here h)) in
       record {
-        stands = rw steps (ticked-stands single v count (stateOf m here) w (r .stands));
-        state = rw (ticked-add v i count x, ← r .state) steps;
+        stands = rw steps (ticks-stand single v count (stateOf m here) w (r .stands));
+        state = rw (ticks-add v i count x, ← r .state) steps;
       }

@@ -11,12 +11,12 @@ use Rattle.text.proofs.line.Kind as K
 use Rattle.text.proofs.line.Kind.Laws as K′
 use Rattle.text.proofs.line.Number as N
 use Rattle.text.proofs.line.Number.Laws as N′
-use Rattle.lexer.proofs.word.WordRead as GK
-use Rattle.lexer.proofs.word.WordRead.Laws as GK′
-use Rattle.lexer.proofs.field.NumberRead as GN
-use Rattle.lexer.proofs.field.NumberRead.Laws as GN′
-use Rattle.lexer.proofs.field.EndRead as GB
-use Rattle.lexer.proofs.field.EndRead.Laws as GB′
+use Rattle.text.proofs.read.WordRead as GK
+use Rattle.text.proofs.read.WordRead.Laws as GK′
+use Rattle.text.proofs.read.NumberRead as GN
+use Rattle.text.proofs.read.NumberRead.Laws as GN′
+use Rattle.text.proofs.read.EndRead as GB
+use Rattle.text.proofs.read.EndRead.Laws as GB′
 use Rattle.lexer.proofs.Walk.Thin.{Answers}
 
 abbrev pub words : Answers

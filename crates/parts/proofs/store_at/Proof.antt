@@ -9,17 +9,17 @@ use Rattle.parts.proofs.store_at.Tie as tie
 add-end : tie.Need-add-end
 add-end c = search needs
 
-sub-store-byte : tie.Need-sub-store-byte
-sub-store-byte c = search needs
+sub-put : tie.Need-sub-put
+sub-put c = search needs
 
-part-store-byte-start : tie.Need-part-store-byte-start
-part-store-byte-start c = search needs
+part-put-start : tie.Need-part-put-start
+part-put-start c = search needs
 
-part-store-byte-end : tie.Need-part-store-byte-end
-part-store-byte-end c = search needs
+part-put-end : tie.Need-part-put-end
+part-put-end c = search needs
 
-store-byte-requires : tie.Need-store-byte-requires
-store-byte-requires c κs = search needs
+put-requires : tie.Need-put-requires
+put-requires c κs = search needs
 
 same-length : tie.Need-same-length
 same-length c = search needs
@@ -27,7 +27,7 @@ same-length c = search needs
 returns : tie.Need-returns
 returns c =
     let a = c .before .before .before .before .before .args in
-    rw (c .before .before .store-byte .ensures)
+    rw (c .before .before .put .ensures)
     (set-mid-at (a .start) (a .start + a .size - a .start) (a .at) (a .memory .now) (a .b)
     (omega (arith, mid-len (a .start) (a .start + a .size) (a .memory .now) (omega arith))))
 
@@ -36,9 +36,9 @@ store-at-spec =
     tie.close
     (tie.spec
     add-end
-    sub-store-byte
-    part-store-byte-start
-    part-store-byte-end
-    store-byte-requires
+    sub-put
+    part-put-start
+    part-put-end
+    put-requires
     same-length
     returns)

@@ -1,4 +1,5 @@
 -- Both registers are read first, the save bytes are put and then the byte, as in `storedTo`.
+use native.Mathlib.Nat.{add-sub-cancel-left}
 use borrow.Author.Tests.{lt-ltb, le-ltb}
 use Rattle.parts.specs.Parts.{storedTo}
 use borrow.Author.Needs.{needs}
@@ -16,6 +17,18 @@ get-register-requires-2 c κs = search needs
 
 low-requires : tie.Need-low-requires
 low-requires c κs = search needs
+
+add-to : tie.Need-add-to
+add-to c = search needs
+
+sub-advance : tie.Need-sub-advance
+sub-advance c = search needs
+
+part-advance-start : tie.Need-part-advance-start
+part-advance-start c = search needs
+
+part-advance-end : tie.Need-part-advance-end
+part-advance-end c = search needs
 
 advance-requires : tie.Need-advance-requires
 advance-requires c κs = search needs
@@ -38,6 +51,7 @@ returns c =
     rw (
       c .before .before .store-at .ensures,
       a .advance .ensures,
+      add-sub-cancel-left,
       l .low .ensures,
       l .before .get-register2 .ensures,
       ← l .before .before .before .get-register .ensures,
@@ -61,6 +75,10 @@ store-to-spec =
     cast-at
     get-register-requires-2
     low-requires
+    add-to
+    sub-advance
+    part-advance-start
+    part-advance-end
     advance-requires
     store-at-requires
     fault-requires

@@ -1,7 +1,8 @@
 -- Tests of the numbers below a bound, one number more at a time, and at each number: by induction on the bound.
-use Prim.Native.Nat.{ℕ, zero, suc, _+_, _<_, _≤_}
+use Prim.Native.Nat.{ℕ, zero, suc, _+_, _*_, _<_, _≤_}
 use mathlib.Core.Path.{_≡_, refl, sym, _∙_, ap}
-use mathlib.Core.Bool.{Bool, true, false, _&&_, _||_, and-false, or-true}
+use mathlib.Core.Bool.{Bool, true, false, _&&_, _||_, and-true, and-false, and-assoc, or-true}
+use native.Mathlib.Nat.{add-zero, add-suc, mul-zero, mul-suc}
 use native.Mathlib.Numerals.{add-one}
 use native.Mathlib.Omega.{arith}
 use native.Mathlib.Decide.{decLt}
@@ -62,6 +63,17 @@ module _ (f : ℕ → Bool) where
   unfolding eachBelow
   each-of zero h = refl
   each-of (suc n) h = rw (each-of n (λ i l. h i (omega arith)), h n (omega arith))
+
+  each-add : (a b : ℕ) → eachBelow (a + b) f ≡ eachBelow a f && eachBelow b (λ c. f (a + c))
+  unfolding eachBelow
+  each-add a zero = rw (add-zero, and-true)
+  each-add a (suc b) = rw (add-suc, each-add a b, and-assoc)
+
+  -- row by row, each of w numbers
+  pub each-row : (w n : ℕ) → eachBelow (w * n) f ≡ eachBelow n (λ r. eachBelow w (λ c. f (w * r + c)))
+  unfolding eachBelow
+  each-row w zero = rw mul-zero
+  each-row w (suc n) = rw (mul-suc, each-add (w * n) w, each-row w n)
 
 module _ (f g : ℕ → Bool) where
   pub some-same : (n : ℕ) → ((i : ℕ) → i < n → f i ≡ g i) → someBelow n f ≡ someBelow n g

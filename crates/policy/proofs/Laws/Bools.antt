@@ -1,21 +1,20 @@
--- The parts of a test that is a sum or a product of two: by cases.
-use Prim.Native.Nat.{ℕ}
-use mathlib.Core.Path.{_≡_, refl}
-use mathlib.Core.Bool.{Bool, true, false, _&&_, _||_}
-use native.Mathlib.Omega.{arith}
+-- The parts of a test that is a sum or a product, passed on from below, and when two tests are the same: by cases.
+use mathlib.Core.Path.{_≡_, refl, sym}
+use mathlib.Core.Bool.{Bool, true, false, _||_}
+pub use Rattle.text.proofs.Laws.Bools.{or-left, or-right, and-left, and-right}
 
-pub or-left : (a b : Bool) → a || b ≡ false → a ≡ false
-or-left true b h = h
-or-left false b h = refl
+-- All parts of a sum of two, and of three.
+pub or-both : (a b : Bool) → a || b ≡ false → (a ≡ false) × (b ≡ false)
+or-both a b h = (or-left a b h, or-right a b h)
 
-pub or-right : (a b : Bool) → a || b ≡ false → b ≡ false
-or-right true b h = absurd (let z : _≡_ {A = Bool} true false = h in let y : _≡_ {A = ℕ} 0 1 = cc in omega arith)
-or-right false b h = h
+pub or-all : (a b c : Bool) → a || b || c ≡ false → ((a ≡ false) × (b ≡ false)) × (c ≡ false)
+or-all a b c h = (or-both a b (or-left (a || b) c h), or-right (a || b) c h)
 
-pub and-left : (a b : Bool) → a && b ≡ true → a ≡ true
-and-left true b h = refl
-and-left false b h = h
+pub same-truth : (a b : Bool) → (a ≡ true → b ≡ true) → (b ≡ true → a ≡ true) → a ≡ b
+same-truth true b f g = sym (f refl)
+same-truth false true f g = g refl
+same-truth false false f g = refl
 
-pub and-right : (a b : Bool) → a && b ≡ true → b ≡ true
-and-right true b h = h
-and-right false b h = absurd (let y : _≡_ {A = ℕ} 0 1 = cc in omega arith)
+pub not-so : (a : Bool) → (a ≡ true → ⊥) → a ≡ false
+not-so true h = absurd (h refl)
+not-so false h = refl

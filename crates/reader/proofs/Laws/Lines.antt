@@ -13,8 +13,8 @@ use Rattle.text.specs.Lines.{lineOf, linesOfPieces, linesOf}
 use Rattle.text.specs.Places.{pieceAt, endAt}
 use Rattle.text.specs.declared.line.Line.{Line}
 use Rattle.text.specs.declared.line.Line.the-variants.{Bad}
-use Rattle.lexer.specs.Cursor.{lineAt}
-use Rattle.lexer.proofs.Laws.Cut.{cut-at}
+use Rattle.text.specs.Readers.{lineAt}
+use Rattle.text.proofs.Laws.Cut.{cut-at}
 
 -- The lines from a place on.
 unfoldable pub linesFrom : List ℕ → ℕ → List Line

@@ -25,9 +25,9 @@ use Rattle.policy.specs.Refusals.{isAccepted}
 use Rattle.policy.specs.Read.{lineRefusal, wholeRefusal, answer, readLines}
 use Rattle.policy.proofs.Kept.{Kept, kept-none}
 use Rattle.policy.proofs.Accepted.{fine, kept-after}
-use Rattle.lexer.specs.Cursor.{lineAt, lineRead}
-use Rattle.lexer.proofs.Laws.Cut.{end-least}
-use Rattle.lexer.proofs.Laws.Line.{line-left}
+use Rattle.text.specs.Readers.{lineAt, lineRead}
+use Rattle.text.proofs.Laws.Cut.{end-least}
+use Rattle.text.proofs.Laws.Line.{line-left}
 use Rattle.reader.proofs.Laws.Lines.{linesFrom, lines-all, line-next, lines-end}
 
 abbrev draft : Policy → Key → Draft

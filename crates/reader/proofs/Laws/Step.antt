@@ -22,8 +22,8 @@ use Rattle.policy.specs.Refusals.{isAccepted}
 use Rattle.policy.specs.Read.{lineRefusal, answer, readLines}
 use Rattle.policy.proofs.Laws.Bools.{or-left, or-right}
 use Rattle.policy.proofs.Accepted.{fine}
-use Rattle.lexer.specs.Cursor.{lineAt, lineRead}
-use Rattle.lexer.specs.declared.parse.LineRead.{LineRead}
+use Rattle.text.specs.Readers.{lineAt, lineRead}
+use Rattle.text.specs.declared.read.LineRead.{LineRead}
 use Rattle.linerules.specs.Parts.{partDraft, modeOf, Fits}
 use Rattle.linerules.proofs.Laws.Parts.{part-same}
 use Rattle.reader.proofs.Laws.Run.{Reached, at-lettered, stops-refused, reached-more, moves-on}

@@ -15,13 +15,14 @@ use Rattle.policy.specs.View.{View}
 use Rattle.policy.specs.Schedule.{roundTicks}
 use Rattle.policy.specs.Record.{viewOf, givesRead, givesWrite}
 use Rattle.policy.specs.Refusals.{numberOf, lineNumberOf, isAccepted}
+use Rattle.schedule.proofs.Laws.Sums.{sum-most}
 use Rattle.report.specs.Report.{acceptedRow, segmentRow, segmentRows, refusedRow, reportOfReading}
 use Rattle.report.specs.Reportable.{Countable}
 use Rattle.report.specs.Rows.{segmentWith, refusedWith}
 use Rattle.report.specs.Masks.{maskIn}
 use Rattle.report.specs.Written.{Written}
 use Rattle.report.proofs.Laws.Digits.{digits-width}
-use Rattle.report.proofs.Laws.Sums.{sum-most, reads-same, writes-same}
+use Rattle.report.proofs.Laws.Masks.{reads-same, writes-same}
 use Rattle.report.proofs.Laws.Written.{written-then}
 
 pub round-small : (v : View) → Countable v → roundTicks v < 100000
@@ -44,6 +45,9 @@ segment-length s reads writes a b d =
     simp length-append
     (omega
     (arith, digits-width 1 s a, digits-width 2 reads (omega arith), digits-width 2 writes (omega arith)))
+
+pub refused-length : (number line : ℕ) → number < 10 → line < 100000 → length (refusedWith number line) ≤ 16
+refused-length number line a b = simp length-append (omega (arith, digits-width 0 number a, digits-width 4 line b))
 
 -- One more row.
 pub rows-more : {l m n : List ℕ} {at next q : ℕ} (p : Policy) (s reads writes : ℕ) →

@@ -1,12 +1,11 @@
 -- Bytes written one after the other are those of both written at once: by induction on the first.
-use Prim.Native.Nat.{ℕ, suc, _+_, _<_, _≤_}
+use Prim.Native.Nat.{ℕ, suc, _+_}
 use mathlib.Core.Path.{_≡_, refl, sym, _∙_}
 use mathlib.Core.List.{List, [], _∷_, _++_}
 use native.Mathlib.Nat.{add-zero, add-suc, suc-add}
-use native.Mathlib.Numerals.{add-one}
 use native.Mathlib.Omega.{arith}
-use lib.ListN.{length, take, getD, length-append}
-use lib.Seq.{sets, take-suc, take-all, length-take-le}
+use lib.ListN.{length, length-append}
+use lib.Seq.{sets}
 use Rattle.report.specs.Written.{Written}
 
 sets-append : (l : List ℕ) (i : ℕ) (a b : List ℕ) → sets (sets l i a) (i + length a) b ≡ sets l i (a ++ b)
@@ -23,13 +22,20 @@ written-then {l} {m} {n} {a} {b} {at} {p} {q} first second =
       text = second .text ∙ rw (first .place, first .text) (sets-append l at a b);
     }
 
--- One more byte of a word.
-pub written-more : {l m n : List ℕ} {at p q : ℕ} (w : List ℕ) (i : ℕ) → i < length w → Written l at (take i w) m p →
-    Written m p (getD w i 0 ∷ []) n q → Written l at (take (i + 1) w) n q
-written-more w i h first second = rw (add-one, take-suc w i 0 h) (written-then first second)
+-- Some bytes are written from a place on, and the rest is ahead.
+pub record Ahead (before : List ℕ) (at : ℕ) (bytes after : List ℕ) (next : ℕ) (rest : List ℕ) : Type 0 where
+  pub place : next + length rest ≡ at + length bytes
+  pub text : sets after next rest ≡ sets before at bytes
 
-pub word-place : {l m : List ℕ} {at p : ℕ} (w : List ℕ) (i : ℕ) → i ≤ length w → Written l at (take i w) m p → p ≡ at + i
-word-place w i h all = rw (← length-take-le i w h) (all .place)
+pub ahead-all : (l : List ℕ) (at : ℕ) (b : List ℕ) → Ahead l at b l at b
+ahead-all l at b = record { place = refl; text = refl }
 
-pub word-whole : {l m : List ℕ} {at p : ℕ} (w : List ℕ) (i : ℕ) → length w ≤ i → Written l at (take i w) m p → Written l at w m p
-word-whole {l} {m} {at} {p} w i h all = rw (take-all i w h) at all
+pub ahead-then : {l b m n : List ℕ} {at p q : ℕ} (x rest : List ℕ) → Ahead l at b m p (x ++ rest) → Written m p x n q → Ahead l at b n q rest
+ahead-then {l} {b} {m} {n} {at} {p} {q} x rest first second =
+    record {
+      place = let e = rw length-append at (first .place) in omega (arith, second .place);
+      text = rw (second .place, second .text) (sets-append m p x rest ∙ first .text);
+    }
+
+pub ahead-done : {l b m n rest : List ℕ} {at p q : ℕ} → Ahead l at b m p rest → Written m p rest n q → Written l at b n q
+ahead-done first second = record { place = second .place ∙ first .place; text = second .text ∙ first .text }

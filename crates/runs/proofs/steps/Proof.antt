@@ -1,34 +1,43 @@
--- Each turn takes one step, of at most a thousand, and memory keeps its length.
+-- Each turn takes one line, of at most a thousand, and memory keeps its length.
 use mathlib.Core.Path.{_≡_, refl}
-use native.Mathlib.Omega.{arith}
 use lib.ListN.{length}
+use native.Mathlib.Omega.{arith}
 use borrow.Author.Needs.{needs}
 use Rattle.runs.proofs.steps.Statement.{statement}
 use Rattle.runs.proofs.steps.Tie as tie
 
 abbrev Inv-loop : tie.InvT-loop
-Inv-loop fd name memory₀ policy₀ place₀ left₀ memory policy place left = length memory ≡ length memory₀
+Inv-loop file from name memory₀ policy₀ place₀ at₀ left₀ memory policy place at left = length memory ≡ length memory₀
 
 abbrev μ-loop : tie.MeasureT-loop
-μ-loop fd name memory₀ policy₀ place₀ left₀ memory policy place left = left
+μ-loop file from name memory₀ policy₀ place₀ at₀ left₀ memory policy place at left = left
 
 loop-holds : tie.Need-loop-holds Inv-loop μ-loop
 loop-holds c = refl
 
-next-step-requires : tie.Need-next-step-requires Inv-loop μ-loop
-next-step-requires c κs = search needs
+field-requires : tie.Need-field-requires Inv-loop μ-loop
+field-requires c κs = search needs
+
+past-requires : tie.Need-past-requires Inv-loop μ-loop
+past-requires c κs = search needs
+
+changed-requires : tie.Need-changed-requires Inv-loop μ-loop
+changed-requires c κs = search needs
+
+field-requires-2 : tie.Need-field-requires-2 Inv-loop μ-loop
+field-requires-2 c κs = search needs
+
+act-requires : tie.Need-act-requires Inv-loop μ-loop
+act-requires c κs = search needs
+
+byte-at-requires : tie.Need-byte-at-requires Inv-loop μ-loop
+byte-at-requires c κs = search needs
 
 same-length : tie.Need-same-length Inv-loop μ-loop
 same-length c = omega arith
 
 returns : tie.Need-returns Inv-loop μ-loop
 returns c = search needs
-
-changed-requires : tie.Need-changed-requires Inv-loop μ-loop
-changed-requires c κs = search needs
-
-act-requires : tie.Need-act-requires Inv-loop μ-loop
-act-requires c κs = search needs
 
 sub-left : tie.Need-sub-left Inv-loop μ-loop
 sub-left c = omega arith
@@ -52,11 +61,14 @@ steps-spec =
     Inv-loop
     μ-loop
     loop-holds
-    next-step-requires
+    field-requires
+    past-requires
+    changed-requires
+    field-requires-2
+    act-requires
+    byte-at-requires
     same-length
     returns
-    changed-requires
-    act-requires
     sub-left
     loop-less
     loop-again

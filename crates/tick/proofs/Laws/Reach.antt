@@ -13,7 +13,7 @@ use Rattle.machine.specs.Faults.{faults}
 use Rattle.machine.specs.Local.{advanced}
 use Rattle.machine.specs.Tick.{Seat, reaches, mayStore, storesByte, applied, stores, saves}
 use Rattle.machine.proofs.Laws.Tests.{applied-cond, reaches-there}
-use Rattle.tick.specs.Seat.{Inside, Fits}
+use Rattle.tick.specs.Seat.{Inside, Seated}
 use Rattle.parts.specs.Parts.{savedAt, storedTo}
 use Rattle.tick.specs.Done.{stored}
 
@@ -29,7 +29,7 @@ module _ {base size : List ℕ} {segments row whole : ℕ} (f : Inside base size
   pub reach-inside : getD base c 0 + getD size c 0 ≤ whole
   reach-inside = f .inside c reached
 
-pub save-inside : {base size : List ℕ} {segments row code save whole : ℕ} → Fits base size segments row code save whole → getD base save 0 + 44 ≤ whole
+pub save-inside : {base size : List ℕ} {segments row code save whole : ℕ} → Seated base size segments row code save whole → getD base save 0 + 44 ≤ whole
 save-inside {base} {size} {segments} {row} {code} {save} {whole} f = rw (← f .save-size) (f .every .inside save (f .save-there))
 
 pub stored-to : (S : Seat) (m : List ℕ) (from a b c : ℕ) (answer : Bool) → answer ≡ mayStore S c → answer ≡ true

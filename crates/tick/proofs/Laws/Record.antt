@@ -1,21 +1,16 @@
--- A lawful policy record's arrays, with the rights from 32 times the partition on, are the machine's seat and fit a tick: the limits bound the row.
+-- A lawful policy record's arrays, with the rights from 32 times the partition on, seat a tick: the limits bound the row.
 use Prim.Native.Nat.{ℕ, _*_, _<_}
 use native.Mathlib.Omega.{arith}
-use mathlib.Core.Path.{_≡_, refl}
 use lib.ListN.{getD}
 use Rattle.policy.specs.Limits.{single}
 use Rattle.policy.specs.declared.record.Policy.{Policy}
 use Rattle.policy.specs.Record.{viewOf}
 use Rattle.policy.specs.Lawful.{Lawful}
-use Rattle.machine.specs.Machine.{seat}
-use Rattle.tick.specs.Seat.{seatOf, Fits}
+use Rattle.tick.specs.Seat.{Seated}
 
-pub record-seat : (p : Policy) (q : ℕ) → seatOf (p .base) (p .size) (p .rights) (p .segments) (32 * q) ≡ seat (viewOf p) q
-record-seat p q = refl
-
-pub record-fits : (p : Policy) (q : ℕ) → Lawful single (viewOf p) → q < p .partitions
-    → Fits (p .base) (p .size) (p .segments) (32 * q) (getD (p .code) q 0) (getD (p .save) q 0) 16384
-record-fits p q w there =
+pub record-seated : (p : Policy) (q : ℕ) → Lawful single (viewOf p) → q < p .partitions
+    → Seated (p .base) (p .size) (p .segments) (32 * q) (getD (p .code) q 0) (getD (p .save) q 0) 16384
+record-seated p q w there =
     record {
       every = record { few = w .few-segments; row-there = omega (arith, w .few-partitions); inside = w .inside };
       code-there = w .code-there q there;

@@ -1,14 +1,14 @@
--- Both answers of decoding are the definition's cases.
-use Rattle.machine.specs.Tick.{obeys}
+-- What decodes to none faults; a load and a store are the definition's own cases; every other instruction changes the save bytes alone, and
+-- these are lent.
+use native.Mathlib.Nat.{add-sub-cancel-left}
+use Rattle.machine.specs.Tick.{executes, obeys}
+use Rattle.tick.proofs.Laws.Alone.{acts-alone}
 use borrow.Author.Needs.{needs}
 use Rattle.tick.proofs.obey.Statement.{statement}
 use Rattle.tick.proofs.obey.Tie as tie
 
 enum-known-d : tie.Need-enum-known-d
 enum-known-d c = search needs
-
-execute-requires : tie.Need-execute-requires
-execute-requires c κs = search needs
 
 enum-told : tie.Need-enum-told
 enum-told c = search needs
@@ -21,24 +21,84 @@ same-length c = search needs
 
 returns : tie.Need-returns
 unfolding obeys
-returns c = rw (c .before .before .before .before .before .d .given .1) (c .before .before .execute .ensures)
+returns c = rw (c .before .before .before .before .enum-told .given .1) (c .before .before .fault .ensures)
+
+enum-known-i : tie.Need-enum-known-i
+enum-known-i c = search needs
+
+load-requires : tie.Need-load-requires
+load-requires c κs = search needs
+
+enum-known-i-2 : tie.Need-enum-known-i-2
+enum-known-i-2 c = search needs
+
+store-requires : tie.Need-store-requires
+store-requires c κs = search needs
+
+add-to : tie.Need-add-to
+add-to c = search needs
+
+sub-act : tie.Need-sub-act
+sub-act c = search needs
+
+part-act-start : tie.Need-part-act-start
+part-act-start c = search needs
+
+part-act-end : tie.Need-part-act-end
+part-act-end c = search needs
+
+act-requires : tie.Need-act-requires
+act-requires c κs = search needs
 
 same-length-2 : tie.Need-same-length-2
 same-length-2 c = search needs
 
 returns-2 : tie.Need-returns-2
+unfolding obeys executes
+returns-2 c =
+    let arm = c .before .before .before .before .before in
+    rw (arm .before .before .before .d .given .1, arm .i .given .1) (c .before .before .load .ensures)
+
+same-length-3 : tie.Need-same-length-3
+same-length-3 c = search needs
+
+returns-3 : tie.Need-returns-3
+unfolding obeys executes
+returns-3 c =
+    let arm = c .before .before .before .before .before in
+    rw (arm .before .before .before .d .given .1, arm .i2 .given .1) (c .before .before .store .ensures)
+
+same-length-4 : tie.Need-same-length-4
+same-length-4 c = search needs
+
+returns-4 : tie.Need-returns-4
 unfolding obeys
-returns-2 c = rw (c .before .before .before .before .enum-told .given .1) (c .before .before .fault .ensures)
+returns-4 c =
+    let arm = c .before .before .before .before in
+    let other = arm .match2 .keys3 in
+    rw (arm .before .before .d .given .1, c .before .before .act .ensures, add-sub-cancel-left, acts-alone)
 
 pub obey-spec : {M : Type 1} → statement M
 obey-spec =
     tie.close
     (tie.spec
     enum-known-d
-    execute-requires
     enum-told
     fault-requires
     same-length
     returns
+    enum-known-i
+    load-requires
+    enum-known-i-2
+    store-requires
+    add-to
+    sub-act
+    part-act-start
+    part-act-end
+    act-requires
     same-length-2
-    returns-2)
+    returns-2
+    same-length-3
+    returns-3
+    same-length-4
+    returns-4)

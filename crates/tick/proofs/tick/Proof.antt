@@ -1,6 +1,6 @@
 -- An interrupt is tested first, then whether the partition is ready, as in the definition; else nothing is written.
 use mathlib.Core.Path.{refl, sym, _∙_}
-use Rattle.machine.specs.Tick.{effect, ticked}
+use Rattle.machine.specs.Tick.{effect, tickOf}
 use Rattle.machine.proofs.Laws.Tests.{interrupts-due}
 use Rattle.tick.proofs.Laws.Reach.{save-inside}
 use borrow.Author.Needs.{needs}
@@ -24,7 +24,7 @@ same-length : tie.Need-same-length
 same-length c = search needs
 
 returns : tie.Need-returns
-unfolding ticked effect
+unfolding tickOf effect
 returns c =
     let i = c .before .before .before .before in
     let t = i .before in
@@ -40,7 +40,7 @@ same-length-2 : tie.Need-same-length-2
 same-length-2 c = search needs
 
 returns-2 : tie.Need-returns-2
-unfolding ticked effect
+unfolding tickOf effect
 returns-2 c =
     let r = c .before .before .before .before .before in
     let t = r .before .before .before in
@@ -58,7 +58,7 @@ same-length-3 : tie.Need-same-length-3
 same-length-3 c = search needs
 
 returns-3 : tie.Need-returns-3
-unfolding ticked effect
+unfolding tickOf effect
 returns-3 c =
     let r = c .before in
     let t = r .before .before .before in

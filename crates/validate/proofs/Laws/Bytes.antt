@@ -11,19 +11,10 @@ use lib.Dec.{eqb, leb}
 use lib.ListN.{length, getD, drop, List·getD-eq-default}
 use Rattle.policy.specs.Below.{someBelow, eachBelow}
 use Rattle.policy.specs.Sound.{allZero}
-use Rattle.policy.proofs.Laws.Bools.{and-left, and-right}
+use Rattle.policy.proofs.Laws.Bools.{and-left, and-right, same-truth, not-so}
 use Rattle.policy.proofs.Laws.Below.{each-at, each-of, none-of, some-found}
 use Rattle.validate.specs.Rows.{byteGood, rowGood}
 use Rattle.validate.proofs.Laws.Zeros.{zero-at, zero-of}
-
-same-truth : (a b : Bool) → (a ≡ true → b ≡ true) → (b ≡ true → a ≡ true) → a ≡ b
-same-truth true b f g = sym (f refl)
-same-truth false true f g = g refl
-same-truth false false f g = refl
-
-not-so : (a : Bool) → (a ≡ true → ⊥) → a ≡ false
-not-so true h = absurd (h refl)
-not-so false h = refl
 
 module _ (most segments : ℕ) (barred : ℕ → Bool) where
   module _ (s byte : ℕ) where

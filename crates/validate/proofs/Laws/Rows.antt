@@ -1,26 +1,13 @@
 -- An array of rows of 32 is tested byte by byte where each of its rows is: the byte c of row r is the one at 32 * r + c.
-use Prim.Native.Nat.{ℕ, zero, suc, _+_, _*_, _≤_, _<_}
+use Prim.Native.Nat.{ℕ, _+_, _*_, _≤_, _<_}
 use mathlib.Core.Path.{_≡_, _∙_}
-use mathlib.Core.Bool.{Bool, _&&_, and-true, and-assoc}
+use mathlib.Core.Bool.{Bool}
 use mathlib.Core.List.{List}
-use native.Mathlib.Nat.{add-zero, add-suc, mul-zero, mul-suc}
 use native.Mathlib.Omega.{arith}
 use lib.ListN.{length, getD, take, drop, length-drop}
 use lib.Seq.{length-take-le, getD-take, getD-drop}
 use Rattle.policy.specs.Below.{eachBelow}
-use Rattle.policy.proofs.Laws.Below.{each-same}
-
-module _ (f : ℕ → Bool) where
-  each-add : (a b : ℕ) → eachBelow (a + b) f ≡ eachBelow a f && eachBelow b (λ c. f (a + c))
-  unfolding eachBelow
-  each-add a zero = rw (add-zero, and-true)
-  each-add a (suc b) = rw (add-suc, each-add a b, and-assoc)
-
-  -- Row by row.
-  each-row : (w n : ℕ) → eachBelow (w * n) f ≡ eachBelow n (λ r. eachBelow w (λ c. f (w * r + c)))
-  unfolding eachBelow
-  each-row w zero = rw mul-zero
-  each-row w (suc n) = rw (mul-suc, each-add (w * n) w, each-row w n)
+use Rattle.policy.proofs.Laws.Below.{each-same, each-row}
 
 abbrev pub rowOf : List ℕ → ℕ → List ℕ
 rowOf a r = take 32 (drop (32 * r) a)

@@ -12,7 +12,7 @@ use Rattle.policy.specs.Access.{readable, writable}
 use Rattle.policy.specs.Whole.{flowLacks, flowMissing}
 use Rattle.policy.proofs.Laws.Below.{none-of, some-same}
 use Rattle.wholerules.specs.Masks.{maskOf, flowsIn, maskLacks, AreReadMasks}
-use Rattle.wholerules.proofs.Laws.Exchange.{some-exchange}
+use Rattle.policy.proofs.Laws.Exchange.{some-exchange}
 use Rattle.wholerules.proofs.Laws.Masks.{mask-strays}
 
 -- What rule 8 asks of p where the target is t, and of the partitions together.

@@ -12,6 +12,8 @@ use std::time::Instant;
 
 #[cfg(feature = "archive")]
 use separation::archive::Archive as Proved;
+#[cfg(feature = "before")]
+use separation::archive::Before;
 #[cfg(not(feature = "archive"))]
 use separation::reference::Reference as Proved;
 
@@ -209,33 +211,38 @@ fn main() {
         assert_eq!(name, "--rounds", "the one option is --rounds");
         rounds = value.parse().expect("--rounds takes a number");
     }
-    let mut times = vec![[const { Vec::new() }; 2]; CASES.len()];
+    let kernels: &[(&str, &dyn Timed)] = &[
+        (Proved.name(), &Proved),
+        (Tuned.name(), &Tuned),
+        #[cfg(feature = "before")]
+        (Before.name(), &Before),
+    ];
+    let mut times = vec![vec![Vec::new(); kernels.len()]; CASES.len()];
     for round in 0..=rounds {
         for (case, times) in CASES.iter().zip(&mut times) {
-            let pair = [(case.time)(&Proved), (case.time)(&Tuned)];
-            // Round 0 warms up.
-            if round > 0 {
-                (0..2).for_each(|kernel| times[kernel].push(pair[kernel]));
+            for ((_, kernel), times) in kernels.iter().zip(times) {
+                let time = (case.time)(*kernel);
+                // Round 0 warms up.
+                if round > 0 {
+                    times.push(time);
+                }
             }
         }
     }
-    let name = Proved.name();
-    println!("| what | unit | {name} min | {name} median | tuned min | tuned median | ratio of min | ratio of median | aim |");
-    println!("|---|---|---:|---:|---:|---:|---:|---:|---:|");
+    print!("| what | unit |");
+    kernels.iter().for_each(|(name, _)| print!(" {name} min | {name} median |"));
+    kernels[1..].iter().for_each(|(name, _)| print!(" min to {name} | median to {name} |"));
+    println!(" aim to tuned |");
+    println!("|---|---|{}---:|", "---:|".repeat(4 * kernels.len() - 2));
     for (case, times) in CASES.iter().zip(&mut times) {
-        let [proved, tuned] = times;
-        let ((min, median), (tuned_min, tuned_median)) = (min_and_median(proved), min_and_median(tuned));
-        println!(
-            "| {} | {} | {min:.2} | {median:.2} | {tuned_min:.2} | {tuned_median:.2} | {:.2} | {:.2} | {:.1} |",
-            case.name,
-            case.unit,
-            min / tuned_min,
-            median / tuned_median,
-            case.aim
-        );
+        let times: Vec<(f64, f64)> = times.iter_mut().map(|times| min_and_median(times)).collect();
+        print!("| {} | {} |", case.name, case.unit);
+        times.iter().for_each(|(min, median)| print!(" {min:.2} | {median:.2} |"));
+        times[1..].iter().for_each(|(min, median)| print!(" {:.2} | {:.2} |", times[0].0 / min, times[0].1 / median));
+        println!(" {:.1} |", case.aim);
     }
     println!();
-    println!("{rounds} rounds, the two kernels in turn, after one round that does not count. Memory is cleared and its programs put in before each");
+    println!("{rounds} rounds, the kernels in turn, after one round that does not count. Memory is cleared and its programs put in before each");
     println!("measurement, outside the time taken; within one it goes on from call to call. Result buffers are not cleared before a call. Ticks are");
     println!("those of Runs of 10,000 (interrupts: of 128, less a Run of 0 ticks), so they bear their share of the check that the record is sound.");
     println!("The record goes by value through the archive's C boundary, by reference to the tuned kernel.");

@@ -1,13 +1,18 @@
 -- Each turn clears one save segment more, as the definition does; a sound record has them all inside memory.
-use Prim.Native.Nat.{_-_, _≤_}
+use Prim.Native.Nat.{ℕ, _+_, _-_, _≤_, _<_}
 use mathlib.Core.Path.{_≡_, refl, _∙_, ap}
+use mathlib.Core.Bool.{true}
+use native.Mathlib.Nat.{add-sub-cancel-left}
 use native.Mathlib.Numerals.{add-one}
 use native.Mathlib.Omega.{arith}
-use lib.ListN.{length}
+use lib.ListN.{length, getD}
 use borrow.Author.Needs.{needs}
+use borrow.Rule.Slice.PartMut.{mid-len}
+use Rattle.policy.specs.declared.record.Policy.{Policy}
 use Rattle.policy.specs.Record.{viewOf}
+use Rattle.policy.specs.Sound.{soundOf}
+use Rattle.policy.proofs.Lawful.{lawful}
 use Rattle.calls.specs.Start.{cleared}
-use Rattle.kernel.proofs.Laws.Saves.{partition-below, save-below, save-inside}
 use Rattle.kernel.proofs.clear.clear_saves.Statement.{statement}
 use Rattle.kernel.proofs.clear.clear_saves.Tie as tie
 
@@ -26,18 +31,37 @@ unfolding cleared
 loop-holds c = (search needs, refl, refl)
 
 save-from-requires : tie.Need-save-from-requires Inv-loop μ-loop
-save-from-requires c κs =
-    let turn = c .before .before .before .before .before in
-    let start = turn .before .before in (
-      partition-below (start .args .t1) (start .pre .0) (turn .loop .i) (omega arith),
-      save-below (start .args .t1) (start .pre .0) (turn .loop .i) (omega arith),
-    )
+save-from-requires c κs = search needs
 
-clear-save-requires : tie.Need-clear-save-requires Inv-loop μ-loop
-clear-save-requires c κs =
-    let turn = c .before .before .before .before .before .before in
+cast-from : tie.Need-cast-from Inv-loop μ-loop
+cast-from c = search needs
+
+add-to : tie.Need-add-to Inv-loop μ-loop
+add-to c = search needs
+
+sub-clear : tie.Need-sub-clear Inv-loop μ-loop
+sub-clear c = search needs
+
+part-clear-start : tie.Need-part-clear-start Inv-loop μ-loop
+part-clear-start c = search needs
+
+save-inside : (p : Policy) → soundOf p ≡ true → (q : ℕ) → q < p .partitions → getD (p .base) (getD (p .save) q 0) 0 + 44 ≤ 16384
+save-inside p sound q there =
+    let w = lawful p sound in
+    let size : getD (p .size) (getD (p .save) q 0) 0 ≡ 44 = w .save-size q there in
+    rw size at (w .inside (getD (p .save) q 0) (w .save-there q there))
+
+room : (c : tie.After-save-from Inv-loop μ-loop) → c .save-from .result + 44 ≤ length (c .before .before .before .before .before .before .before .loop .memory)
+room c =
+    let turn = c .before .before .before .before .before .before .before in
     let start = turn .before .before in
     rw (c .save-from .ensures, turn .loop .inv .1, start .pre .1) (save-inside (start .args .t1) (start .pre .0) (turn .loop .i) (omega arith))
+
+part-clear-end : tie.Need-part-clear-end Inv-loop μ-loop
+part-clear-end c = room c
+
+clear-requires : tie.Need-clear-requires Inv-loop μ-loop
+clear-requires c κs = search needs
 
 add-i : tie.Need-add-i Inv-loop μ-loop
 add-i c = search needs
@@ -49,8 +73,13 @@ loop-again : tie.Need-loop-again Inv-loop μ-loop
 unfolding cleared
 loop-again c =
     let call = c .before .before in
-    let turn = call .before .before .before .before .before .before .before in
-    (omega arith, search needs, call .clear-save .ensures ∙ rw (call .before .save-from .ensures, add-one, turn .loop .inv .2))
+    let found = call .before .before in
+    let turn = found .before .before .before .before .before .before .before in
+    let from = found .save-from .result in (
+      omega arith,
+      search needs,
+      rw (call .clear .ensures, mid-len from (from + 44) (turn .loop .memory) (omega (arith, room found)), add-sub-cancel-left, found .save-from .ensures, add-one, turn .loop .inv .2),
+    )
 
 same-length : tie.Need-same-length Inv-loop μ-loop
 same-length c = search needs
@@ -71,7 +100,12 @@ clear-saves-spec =
     cast-count
     loop-holds
     save-from-requires
-    clear-save-requires
+    cast-from
+    add-to
+    sub-clear
+    part-clear-start
+    part-clear-end
+    clear-requires
     add-i
     loop-less
     loop-again

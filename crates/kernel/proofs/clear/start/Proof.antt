@@ -6,36 +6,22 @@ use Rattle.calls.specs.Start.{startOutcome, startAnswer, afterStart}
 use Rattle.kernel.proofs.clear.start.Statement.{statement}
 use Rattle.kernel.proofs.clear.start.Tie as tie
 
-begun-requires : tie.Need-begun-requires
-begun-requires c κs = search needs
-
 returns : tie.Need-returns
 unfolding startOutcome startAnswer afterStart
-returns c = rw (c .begun .ensures, ne-eqb _ _ (c .before .if1 .taken)) (refl, refl)
+returns c = rw (ne-eqb _ _ (c .if1 .taken)) (refl, refl)
 
 passes-test-requires : tie.Need-passes-test-requires
 passes-test-requires c κs = search needs
 
-begun-requires-2 : tie.Need-begun-requires-2
-begun-requires-2 c κs = search needs
-
 returns-2 : tie.Need-returns-2
 unfolding startOutcome startAnswer afterStart
 returns-2 c =
-    rw (
-      c .begun2 .ensures,
-      eq-eqb _ _ (c .before .before .before .if1 .left),
-      sym (c .before .before .passes-test .ensures) ∙ not-true _ (c .before .if2 .taken),
-    )
-    (refl, refl)
+    rw (eq-eqb _ _ (c .before .before .if1 .left), sym (c .before .passes-test .ensures) ∙ not-true _ (c .if2 .taken)) (refl, refl)
 
 clear-saves-requires : tie.Need-clear-saves-requires
 clear-saves-requires c κs =
     let t = c .before in
     (sym (t .before .passes-test .ensures) ∙ not-false _ (t .if2 .left), t .before .before .if1 .left)
-
-begun-requires-3 : tie.Need-begun-requires-3
-begun-requires-3 c κs = search needs
 
 same-length : tie.Need-same-length
 same-length c = search needs
@@ -43,10 +29,9 @@ same-length c = search needs
 returns-3 : tie.Need-returns-3
 unfolding startOutcome startAnswer afterStart
 returns-3 c =
-    let call = c .before .before .before in
+    let call = c .before .before in
     let t = call .before .before in
     rw (
-      c .begun3 .ensures,
       call .clear-saves .ensures,
       eq-eqb _ _ (t .before .before .if1 .left),
       sym (t .before .passes-test .ensures) ∙ not-false _ (t .if2 .left),
@@ -54,15 +39,4 @@ returns-3 c =
     (refl, refl)
 
 pub start-spec : {M : Type 1} → statement M
-start-spec =
-    tie.close
-    (tie.spec
-    begun-requires
-    returns
-    passes-test-requires
-    begun-requires-2
-    returns-2
-    clear-saves-requires
-    begun-requires-3
-    same-length
-    returns-3)
+start-spec = tie.close (tie.spec returns passes-test-requires returns-2 clear-saves-requires same-length returns-3)

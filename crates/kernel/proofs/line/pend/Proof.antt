@@ -1,12 +1,12 @@
--- Each return rewrites with the tests on the way, which are the definition's in its order; a sound record has the save segment inside memory.
-use mathlib.Core.Path.{_≡_, refl, sym, _∙_}
-use mathlib.Core.Bool.{true}
+-- Each return rewrites with the tests on the way, which are the definition's in its order; a line is at most 7, so its bit is in the byte.
+use Prim.Native.Nat.{_<_}
+use mathlib.Core.Path.{refl, sym, _∙_}
+use native.Mathlib.Nat.{one-mul, mod-eq-of-lt}
 use native.Mathlib.Omega.{arith}
+use lib.Pow.{pow-lt}
 use borrow.Author.Needs.{needs}
 use borrow.Author.Tests.{eq-eqb, ne-eqb, le-leb, lt-leb, lt-ltb, le-ltb, not-true, not-false}
-use Rattle.policy.specs.Sound.{soundOf}
-use Rattle.calls.specs.Pend.{pendOutcome, pended, afterPend}
-use Rattle.kernel.proofs.Laws.Saves.{partition-below, save-below, save-inside}
+use Rattle.calls.specs.Pend.{pendOutcome, withLine, afterPend}
 use Rattle.kernel.proofs.line.pend.Statement.{statement}
 use Rattle.kernel.proofs.line.pend.Tie as tie
 
@@ -28,9 +28,10 @@ cast-if3 c = search needs
 returns-3 : tie.Need-returns-3
 unfolding pendOutcome afterPend
 returns-3 c =
+    let sound = c .before in
     rw (
-      eq-eqb _ _ (c .before .before .before .if1 .left),
-      sym (c .before .before .passes-test .ensures) ∙ not-false _ (c .before .if2 .left),
+      eq-eqb _ _ (sound .before .before .if1 .left),
+      sym (sound .before .passes-test .ensures) ∙ not-false _ (sound .if2 .left),
       le-leb _ _ (c .if3 .taken),
     )
     (refl, refl)
@@ -38,46 +39,55 @@ returns-3 c =
 returns-4 : tie.Need-returns-4
 unfolding pendOutcome afterPend
 returns-4 c =
+    let sound = c .before .before in
     rw (
-      eq-eqb _ _ (c .before .before .before .before .if1 .left),
-      sym (c .before .before .before .passes-test .ensures) ∙ not-false _ (c .before .before .if2 .left),
+      eq-eqb _ _ (sound .before .before .if1 .left),
+      sym (sound .before .passes-test .ensures) ∙ not-false _ (sound .if2 .left),
       lt-leb _ _ (c .before .if3 .left),
       lt-ltb _ _ (c .if4 .taken),
     )
     (refl, refl)
 
 save-from-requires : tie.Need-save-from-requires
-save-from-requires c κs =
-    let tests = c .before .before .before in
-    let a = tests .before .before .before .before .before .before .args in
-    let sound : soundOf (a .t1) ≡ true = sym (tests .before .before .before .passes-test .ensures) ∙ not-false _ (tests .before .before .if2 .left) in
-    (partition-below (a .t1) sound (a .partition) (omega arith), save-below (a .t1) sound (a .partition) (omega arith))
+save-from-requires c κs = search needs
 
-pend-save-requires : tie.Need-pend-save-requires
-pend-save-requires c κs =
-    let tests = c .before .before .before .before .before in
-    let a = tests .before .before .before .before .before .before .args in
-    let sound : soundOf (a .t1) ≡ true = sym (tests .before .before .before .passes-test .ensures) ∙ not-false _ (tests .before .before .if2 .left) in (
-      rw (c .before .save-from .ensures, tests .before .before .before .before .if1 .left) (save-inside (a .t1) sound (a .partition) (omega arith)),
-      omega arith,
-    )
+cast-at : tie.Need-cast-at
+cast-at c = search needs
+
+add-at : tie.Need-add-at
+add-at c = search needs
+
+byte-at-requires : tie.Need-byte-at-requires
+byte-at-requires c κs = search needs
+
+cast-put : tie.Need-cast-put
+cast-put c = search needs
+
+shl-put : tie.Need-shl-put
+shl-put c = search needs
+
+put-requires : tie.Need-put-requires
+put-requires c κs = search needs
 
 same-length : tie.Need-same-length
 same-length c = search needs
 
 returns-5 : tie.Need-returns-5
-unfolding pendOutcome pended afterPend
+unfolding pendOutcome withLine afterPend
 returns-5 c =
-    let call = c .before .before in
-    let tests = call .before .before .before .before .before .before in
+    let stored = c .before .before in
+    let read = stored .before .before in
+    let found = read .before .before in
+    let line = found .before .before .before .before .before .before in
+    let sound = line .before .before in
+    let small : sound .before .before .before .before .args .line < 8 = omega (arith, line .if4 .left) in
     rw (
-      eq-eqb _ _ (tests .before .before .before .before .if1 .left),
-      sym (tests .before .before .before .passes-test .ensures) ∙ not-false _ (tests .before .before .if2 .left),
-      lt-leb _ _ (tests .before .if3 .left),
-      le-ltb _ _ (tests .if4 .left),
-      ← call .before .before .save-from .ensures,
+      eq-eqb _ _ (sound .before .before .if1 .left),
+      sym (sound .before .passes-test .ensures) ∙ not-false _ (sound .if2 .left),
+      lt-leb _ _ (line .before .if3 .left),
+      le-ltb _ _ (line .if4 .left),
     )
-    (refl, call .pend-save .ensures)
+    (refl, rw (one-mul, mod-eq-of-lt (pow-lt {j = 8} small), read .byte-at .ensures, found .save-from .ensures) at (stored .put .ensures))
 
 pub pend-spec : {M : Type 1} → statement M
 pend-spec =
@@ -90,6 +100,11 @@ pend-spec =
     returns-3
     returns-4
     save-from-requires
-    pend-save-requires
+    cast-at
+    add-at
+    byte-at-requires
+    cast-put
+    shl-put
+    put-requires
     same-length
     returns-5)

@@ -42,8 +42,8 @@ use denote.Triple.Entry.{onEntry}
 use denote.Triple.Spec.{Meets, tripleOf}
 use denote.Triple.Table.{entered, cited}
 use denote.Triple.Walked.{says, needs, Stays, stay-none, stay-none-slice, walkOf, goes-none, goes-none-slice, Walks, ends-at, walked, walk-meets}
-use Rattle.lexer.specs.Cursor.{lineEndAt, pastLineEnd}
-use Rattle.lexer.specs.declared.parse.FieldsRead.{FieldsRead}
+use Rattle.text.specs.Readers.{lineEndAt, pastLineEnd}
+use Rattle.text.specs.declared.read.FieldsRead.{FieldsRead}
 use Rattle.text.specs.declared.line.Cursor.{Cursor}
 use Rattle.text.specs.declared.line.Kind.{Kind}
 use Rattle.text.specs.declared.line.Number.{Number}
@@ -53,9 +53,9 @@ use Rattle.text.proofs.line.Kind as K
 use Rattle.text.proofs.line.Kind.Laws as K′
 use Rattle.text.proofs.line.Number as N
 use Rattle.text.proofs.line.Number.Laws as N′
-use Rattle.lexer.proofs.parse.FieldsRead as G
-use Rattle.lexer.proofs.parse.FieldsRead.Laws as G′
-use Rattle.lexer.proofs.Laws.Within.{wordIn, numberIn, lettersIn, line-kept, fields-within}
+use Rattle.text.proofs.read.FieldsRead as G
+use Rattle.text.proofs.read.FieldsRead.Laws as G′
+use Rattle.text.proofs.Laws.Within.{wordIn, numberIn, lettersIn, line-kept, fields-within}
 use Rattle.lexer.proofs.Walk.Lent.{Reader, calls-reader}
 use Rattle.lexer.proofs.Walk.Place.{sliceOf, Own, low, cell-in, cell-out}
 use Rattle.lexer.proofs.take.take_word.Symbol as take-word-def

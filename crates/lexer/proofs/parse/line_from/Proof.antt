@@ -1,5 +1,5 @@
 -- What the line's fields say is what the line says.
-use Rattle.lexer.proofs.Laws.Line.{line-read}
+use Rattle.text.proofs.Laws.Line.{line-read}
 use borrow.Author.Needs.{needs}
 use Rattle.lexer.proofs.parse.line_from.Statement.{statement}
 use Rattle.lexer.proofs.parse.line_from.Tie as tie

@@ -1,4 +1,5 @@
 -- Each kind of line has its own test, which is the definition at that kind.
+use native.Mathlib.Omega.{arith}
 use borrow.Author.Needs.{needs}
 use Rattle.policy.specs.Clash.{clashes}
 use Rattle.linerules.proofs.clash.clashes.Statement.{statement}
@@ -11,7 +12,8 @@ enum-known-line : tie.Need-enum-known-line
 enum-known-line c = search needs
 
 overlaps-earlier-requires : tie.Need-overlaps-earlier-requires
-overlaps-earlier-requires c κs = search needs
+overlaps-earlier-requires c κs =
+    omega (arith, rw (c .before .line .given .1) at (c .before .before .before .before .before .before .before .pre))
 
 enum-known-line-2 : tie.Need-enum-known-line-2
 enum-known-line-2 c = search needs

@@ -1,46 +1,45 @@
--- No partition passed has the segment as its save segment, and the first that does is found.
-use Prim.Native.Nat.{_≤_, _-_}
-use mathlib.Core.Bool.{false}
-use mathlib.Core.Path.{_≡_, refl, sym}
-use native.Mathlib.Omega.{arith}
-use borrow.Author.Needs.{needs}
+-- No partition passed has the segment as its save, and the first that does is found.
+use Prim.Native.Nat.{_-_}
 use borrow.Author.Tests.{eq-eqb, ne-eqb}
+use borrow.Author.Needs.{needs}
 use lib.Dec.{eqb}
 use lib.ListN.{getD}
-use Rattle.policy.specs.Below.{someBelow}
-use Rattle.policy.proofs.Laws.Below.{some-more, some-found}
+use Rattle.policy.proofs.Laws.Loops.{Searched, search-none, search-found, search-more, search-done}
 use Rattle.linerules.proofs.clash.is_save.Statement.{statement}
 use Rattle.linerules.proofs.clash.is_save.Tie as tie
 
 abbrev Inv-loop : tie.InvT-loop
-Inv-loop partitions saves segment n i₀ i = (i ≤ n) × (someBelow i (λ q. eqb segment (getD saves q 0)) ≡ false)
+Inv-loop partitions saves segment i₀ i = Searched partitions (λ q. eqb segment (getD saves q 0)) i
 
 abbrev μ-loop : tie.MeasureT-loop
-μ-loop partitions saves segment n i₀ i = n - i
+μ-loop partitions saves segment i₀ i = partitions - i
 
 loop-holds : tie.Need-loop-holds Inv-loop μ-loop
-unfolding someBelow
-loop-holds c = (omega arith, refl)
+loop-holds c = search-none _ _
 
-of-partition-requires : tie.Need-of-partition-requires Inv-loop μ-loop
-of-partition-requires c κs = search needs
+cast-byte-at : tie.Need-cast-byte-at Inv-loop μ-loop
+cast-byte-at c = search needs
+
+byte-at-requires : tie.Need-byte-at-requires Inv-loop μ-loop
+byte-at-requires c κs = search needs
+
+cast-if1 : tie.Need-cast-if1 Inv-loop μ-loop
+cast-if1 c = search needs
 
 returns : tie.Need-returns Inv-loop μ-loop
-returns c = sym (some-found _ _ _ (c .before .before .loop-test .taken) (rw (← c .before .of-partition .ensures) (eq-eqb _ _ (c .if1 .taken))))
+returns c = search-found _ _ _ _ (c .before .before .loop-test .taken) (rw (c .before .byte-at .ensures)) (eq-eqb _ _ (c .if1 .taken))
 
 add-i : tie.Need-add-i Inv-loop μ-loop
-add-i c = omega arith
+add-i c = search needs
 
 loop-less : tie.Need-loop-less Inv-loop μ-loop
-loop-less c = omega arith
+loop-less c = search needs
 
 loop-again : tie.Need-loop-again Inv-loop μ-loop
-loop-again c = (omega arith, some-more _ _ (c .before .before .before .loop .inv .1) (rw (← c .before .of-partition .ensures) (ne-eqb _ _ (c .if1 .left))))
+loop-again c = search-more _ _ _ _ (c .before .before .before .loop .inv) (c .before .before .loop-test .taken) (rw (c .before .byte-at .ensures)) (ne-eqb _ _ (c .if1 .left))
 
 returns-2 : tie.Need-returns-2 Inv-loop μ-loop
-returns-2 c =
-    let e : c .before .before .args .partitions ≡ c .before .loop .i = omega arith in
-    rw e (sym (c .before .loop .inv .1))
+returns-2 c = search-done _ _ _ (c .before .loop .inv) (c .loop-test .left)
 
 pub is-save-spec : {M : Type 1} → statement M
 is-save-spec =
@@ -49,7 +48,9 @@ is-save-spec =
     Inv-loop
     μ-loop
     loop-holds
-    of-partition-requires
+    cast-byte-at
+    byte-at-requires
+    cast-if1
     returns
     add-i
     loop-less

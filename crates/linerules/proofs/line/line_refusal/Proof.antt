@@ -1,5 +1,7 @@
 -- The tests stand in the order of the rules, each on the part of the draft that it reads.
+use mathlib.Core.Path.{sym, _∙_}
 use borrow.Author.Needs.{needs}
+use Rattle.linerules.proofs.Laws.Fits.{range-ends}
 use Rattle.linerules.proofs.Laws.Parts.{line-part}
 use Rattle.linerules.proofs.line.line_refusal.Statement.{statement}
 use Rattle.linerules.proofs.line.line_refusal.Tie as tie
@@ -28,7 +30,7 @@ returns-3 c =
     rw (line-part, ← bad .before .is-bad .ensures, bad .if1 .left, ← order .before .out-of-order .ensures, order .if2 .left, ← c .before .out-of-range .ensures, c .if3 .taken)
 
 clashes-requires : tie.Need-clashes-requires
-clashes-requires c κs = search needs
+clashes-requires c κs = range-ends _ _ (sym (c .before .out-of-range .ensures) ∙ c .if3 .left)
 
 returns-4 : tie.Need-returns-4
 returns-4 c =

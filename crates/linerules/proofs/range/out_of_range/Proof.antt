@@ -22,14 +22,8 @@ partition-outside-requires c κs = search needs
 enum-known-line-3 : tie.Need-enum-known-line-3
 enum-known-line-3 c = search needs
 
-either-outside-requires : tie.Need-either-outside-requires
-either-outside-requires c κs = search needs
-
 enum-known-line-4 : tie.Need-enum-known-line-4
 enum-known-line-4 c = search needs
-
-either-outside-requires-2 : tie.Need-either-outside-requires-2
-either-outside-requires-2 c κs = search needs
 
 enum-known-line-5 : tie.Need-enum-known-line-5
 enum-known-line-5 c = search needs
@@ -51,11 +45,11 @@ returns-3 c = rw (c .before .before .line2 .given .1) (c .partition-outside .ens
 
 returns-4 : tie.Need-returns-4
 unfolding outOfRange
-returns-4 c = rw (c .before .before .line3 .given .1) (c .either-outside .ensures)
+returns-4 c = rw (c .before .line3 .given .1)
 
 returns-5 : tie.Need-returns-5
 unfolding outOfRange
-returns-5 c = rw (c .before .before .line4 .given .1) (c .either-outside2 .ensures)
+returns-5 c = rw (c .before .line4 .given .1)
 
 returns-6 : tie.Need-returns-6
 unfolding outOfRange
@@ -71,9 +65,7 @@ out-of-range-spec =
     enum-known-line-2
     partition-outside-requires
     enum-known-line-3
-    either-outside-requires
     enum-known-line-4
-    either-outside-requires-2
     enum-known-line-5
     slot-outside-requires
     returns

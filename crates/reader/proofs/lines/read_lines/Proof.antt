@@ -45,7 +45,7 @@ refused-requires c κs = search needs
 returns : tie.Need-returns Inv-loop μ-loop
 returns c =
     let ruled = c .before .before .before in
-    let line = ruled .before .before .before .before .before .before in
+    let line = ruled .before .before .before .before .before .before .before .before .before .before in
     c .refused .ensures
     ∙ step-refused _ _ _ _ _ (line .before .before .before .loop .inv) (line .before .if1 .taken)
     _ _ (line .line-from .ensures) (ruled .line-refusal .ensures)
@@ -53,11 +53,11 @@ returns c =
 
 -- A line that no rule refuses fits the record.
 fits : (e : tie.Else2 Inv-loop μ-loop) →
-    Fits (e .before .before .before .before .before .before .before .before .before .before .before .loop .policy)
-    (e .before .before .before .before .before .before .before .before .line-from .result .line)
+    Fits (e .before .before .before .before .before .before .before .before .before .before .before .before .before .before .before .loop .policy)
+    (e .before .before .before .before .before .before .before .before .before .before .before .before .line-from .result .line)
 fits e =
     let ruled = e .before .before in
-    let line = ruled .before .before .before .before .before .before in
+    let line = ruled .before .before .before .before .before .before .before .before .before .before in
     step-fits _ _ _ _ _ (line .before .before .before .loop .inv) (line .before .if1 .taken)
     _ _ (line .line-from .ensures) (ruled .line-refusal .ensures)
     (sym (e .before .is-accepted .ensures) ∙ not-false _ (e .if2 .left))
@@ -79,7 +79,7 @@ flow-in : (c : tie.After-known-told4 Inv-loop μ-loop) →
 flow-in c = flow-fits _ _ _ (rw (c .before .line4 .given .1) at (fits (c .before .before .before)))
 
 slot-in : (c : tie.After-known-told5 Inv-loop μ-loop) →
-    let g = c .before .line5 .given .0 in (c .before .before .before .before .before .before .before .before .before .before .before .before .before .before .loop .policy .slots < 32) × (g .0 < 8) × (g .1 .0 < 65536)
+    let g = c .before .line5 .given .0 in (c .before .before .before .before .before .before .before .before .before .before .before .before .before .before .before .before .before .before .loop .policy .slots < 32) × (g .0 < 8) × (g .1 .0 < 65536)
 slot-in c = slot-fits _ _ _ (rw (c .before .line5 .given .1) at (fits (c .before .before .before)))
 
 enum-told : tie.Need-enum-told Inv-loop μ-loop
@@ -206,7 +206,7 @@ add-policy-5 : tie.Need-add-policy-5 Inv-loop μ-loop
 add-policy-5 c = omega (arith, slot-in c)
 
 -- What the arms store is what the line adds, and the line stays what it was.
-stored : (c : tie.At-match-came Inv-loop μ-loop) → c .match .policy ≡ added (c .before .before .before .before .before .before .before .before .before .before .before .before .loop .policy) (c .before .before .before .before .before .before .before .before .before .line-from .result .line)
+stored : (c : tie.At-match-came Inv-loop μ-loop) → c .match .policy ≡ added (c .before .before .before .before .before .before .before .before .before .before .before .before .before .before .before .before .loop .policy) (c .before .before .before .before .before .before .before .before .before .before .before .before .before .line-from .result .line)
 unfolding added
 stored c =
     ⊎-elim (λ a. rw (a .1 .given .1) (a .2))
@@ -216,7 +216,7 @@ stored c =
     (⊎-elim (λ a. rw (a .1 .given .1) (a .3)) (λ a. rw (a .1 .given .1) (a .3))))))
     (c .match .came)
 
-same-line : (c : tie.At-match-came Inv-loop μ-loop) → c .match .line ≡ c .before .before .before .before .before .before .before .before .before .line-from .result .line
+same-line : (c : tie.At-match-came Inv-loop μ-loop) → c .match .line ≡ c .before .before .before .before .before .before .before .before .before .before .before .before .before .line-from .result .line
 same-line c =
     ⊎-elim (λ a. a .3)
     (⊎-elim (λ a. a .4 ∙ sym (a .1 .given .1))
@@ -231,7 +231,7 @@ key-of-requires c κs = search needs
 loop-less : tie.Need-loop-less Inv-loop μ-loop
 loop-less c =
     let ruled = c .before .before .before .before .before in
-    let line = ruled .before .before .before .before .before .before in
+    let line = ruled .before .before .before .before .before .before .before .before .before .before in
     omega (
       arith,
       line .before .if1 .taken,
@@ -243,7 +243,7 @@ loop-less c =
 loop-again : tie.Need-loop-again Inv-loop μ-loop
 loop-again c =
     let ruled = c .before .before .before .before .before in
-    let line = ruled .before .before .before .before .before .before in
+    let line = ruled .before .before .before .before .before .before .before .before .before .before in
     step-more _ _ _ _ _ (line .before .before .before .loop .inv) (line .before .if1 .taken)
     _ _ (line .line-from .ensures) (ruled .line-refusal .ensures)
     _ _ (sym (c .before .before .before .before .is-accepted .ensures) ∙ not-false _ (c .before .before .before .if2 .left))

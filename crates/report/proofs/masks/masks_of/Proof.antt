@@ -8,7 +8,7 @@ use borrow.Author.Needs.{needs}
 use Rattle.policy.specs.Below.{sumBelow}
 use Rattle.policy.specs.Record.{givesRead, givesWrite}
 use Rattle.report.specs.Masks.{maskIn}
-use Rattle.report.proofs.Laws.Sums.{mask-next, mask-under, bit-small}
+use Rattle.report.proofs.Laws.Masks.{mask-next, mask-under, bit-small}
 use Rattle.report.proofs.masks.masks_of.Statement.{statement}
 use Rattle.report.proofs.masks.masks_of.Tie as tie
 
@@ -38,15 +38,12 @@ add-right c = omega arith
 element-copy-out-right : tie.Need-element-copy-out-right Inv-loop μ-loop
 element-copy-out-right c = omega arith
 
-gives-requires : tie.Need-gives-requires Inv-loop μ-loop
-gives-requires c κs = search needs
-
 worth-requires : tie.Need-worth-requires Inv-loop μ-loop
 worth-requires c κs = search needs
 
 add-reads : tie.Need-add-reads Inv-loop μ-loop
 add-reads c =
-    let l = c .before .before .before .before .before in
+    let l = c .before .before .before .before in
     let a = l .before .args in
     omega (
       arith,
@@ -54,15 +51,12 @@ add-reads c =
       bit-small (l .loop .p) (omega arith),
     )
 
-gives-requires-2 : tie.Need-gives-requires-2 Inv-loop μ-loop
-gives-requires-2 c κs = search needs
-
 worth-requires-2 : tie.Need-worth-requires-2 Inv-loop μ-loop
 worth-requires-2 c κs = search needs
 
 add-writes : tie.Need-add-writes Inv-loop μ-loop
 add-writes c =
-    let l = c .before .before .before .before .before .before .before in
+    let l = c .before .before .before .before .before in
     let a = l .before .args in
     omega (
       arith,
@@ -72,7 +66,7 @@ add-writes c =
 
 mul-bit : tie.Need-mul-bit Inv-loop μ-loop
 mul-bit c =
-    let l = c .before .before .before .before .before .before .before in
+    let l = c .before .before .before .before .before in
     omega (arith, bit-small (l .loop .p) (omega arith))
 
 add-p : tie.Need-add-p Inv-loop μ-loop
@@ -83,12 +77,11 @@ loop-less c = omega arith
 
 loop-again : tie.Need-loop-again Inv-loop μ-loop
 loop-again c =
-    let i = c .before .before .before .before .before .before .before .loop .inv in
-    let r = c .before .before in (
+    let i = c .before .before .before .before .before .loop .inv in (
       omega arith,
       rw (i .1, add-one, pow-suc),
-      mask-next givesRead _ _ _ _ _ _ _ _ (i .2) (i .1) (r .before .gives .ensures) (r .worth .ensures .0),
-      mask-next givesWrite _ _ _ _ _ _ _ _ (i .3) (i .1) (c .before .gives2 .ensures) (c .worth2 .ensures .0),
+      mask-next givesRead _ _ _ _ _ _ _ (i .2) (i .1) (c .before .worth .ensures .0),
+      mask-next givesWrite _ _ _ _ _ _ _ (i .3) (i .1) (c .worth2 .ensures .0),
     )
 
 returns : tie.Need-returns Inv-loop μ-loop
@@ -108,10 +101,8 @@ masks-of-spec =
     mul-right
     add-right
     element-copy-out-right
-    gives-requires
     worth-requires
     add-reads
-    gives-requires-2
     worth-requires-2
     add-writes
     mul-bit

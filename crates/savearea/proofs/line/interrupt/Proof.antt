@@ -1,17 +1,17 @@
--- The fields are read before any is put, and the line taken is the lowest of those due.
-use Rattle.machine.specs.Local.{interrupted}
+-- The fields are read before any is put, the line taken is the lowest of those due, and the puts are in the order of the definition.
+use Rattle.machine.specs.Local.{entered, interrupted}
 use borrow.Author.Needs.{needs}
 use Rattle.savearea.proofs.line.interrupt.Statement.{statement}
 use Rattle.savearea.proofs.line.interrupt.Tie as tie
 
-get-counter-requires : tie.Need-get-counter-requires
-get-counter-requires c κs = search needs
+get-half-requires : tie.Need-get-half-requires
+get-half-requires c κs = search needs
 
 cast-from : tie.Need-cast-from
 cast-from c = search needs
 
-get-half-requires : tie.Need-get-half-requires
-get-half-requires c κs = search needs
+get-half-requires-2 : tie.Need-get-half-requires-2
+get-half-requires-2 c κs = search needs
 
 cast-handler : tie.Need-cast-handler
 cast-handler c = search needs
@@ -25,28 +25,72 @@ byte-at-requires-2 c κs = search needs
 take-line-requires : tie.Need-take-line-requires
 take-line-requires c κs = rw (c .before .before .byte-at .ensures, c .byte-at2 .ensures) (c .before .before .before .before .before .before .before .before .before .pre)
 
-enter-requires : tie.Need-enter-requires
-enter-requires c κs = search needs
+put-requires : tie.Need-put-requires
+put-requires c κs = search needs
+
+put-word-requires : tie.Need-put-word-requires
+put-word-requires c κs = search needs
+
+put-half-requires : tie.Need-put-half-requires
+put-half-requires c κs = search needs
+
+put-half-requires-2 : tie.Need-put-half-requires-2
+put-half-requires-2 c κs = search needs
+
+put-requires-2 : tie.Need-put-requires-2
+put-requires-2 c κs = search needs
+
+put-requires-3 : tie.Need-put-requires-3
+put-requires-3 c κs = search needs
 
 same-length : tie.Need-same-length
 same-length c = search needs
 
 returns : tie.Need-returns
-unfolding interrupted
-returns c = let t = c .before .before .before .before in let b = t .before in let a = b .before .before in let h = a .before .before in let p = h .before .before in
-    rw (c .before .before .enter .ensures, t .take-line .ensures .0, t .take-line .ensures .1, b .byte-at2 .ensures, a .byte-at .ensures, h .get-half .ensures, p .get-counter .ensures)
+unfolding interrupted entered
+returns c =
+    let state = c .before .before in
+    let inside = state .before .before .before .before in
+    let counter = inside .before .before .before .before in
+    let return = counter .before .before .before .before in
+    let line = return .before .before .before .before in
+    let pended = line .before .before .before .before in
+    let taken = pended .before .before in
+    let enabled = taken .before in
+    let lines = enabled .before .before in
+    let handler = lines .before .before in
+    let from = handler .before .before in
+    rw (
+      state .put3 .ensures,
+      inside .put2 .ensures,
+      counter .put-half2 .ensures,
+      return .put-half .ensures,
+      line .put-word .ensures,
+      pended .put .ensures,
+      taken .take-line .ensures .0,
+      taken .take-line .ensures .1,
+      enabled .byte-at2 .ensures,
+      lines .byte-at .ensures,
+      handler .get-half2 .ensures,
+      from .get-half .ensures,
+    )
 
 pub interrupt-spec : {M : Type 1} → statement M
 interrupt-spec =
     tie.close
     (tie.spec
-    get-counter-requires
-    cast-from
     get-half-requires
+    cast-from
+    get-half-requires-2
     cast-handler
     byte-at-requires
     byte-at-requires-2
     take-line-requires
-    enter-requires
+    put-requires
+    put-word-requires
+    put-half-requires
+    put-half-requires-2
+    put-requires-2
+    put-requires-3
     same-length
     returns)

@@ -28,21 +28,19 @@ returns-2 c = rw (sym (c .before .in-handler .ensures) ∙ c .if2 .taken)
 byte-at-requires-3 : tie.Need-byte-at-requires-3
 byte-at-requires-3 c κs = search needs
 
-is-awake-requires : tie.Need-is-awake-requires
-is-awake-requires c κs = search needs
-
 returns-3 : tie.Need-returns-3
 unfolding takesInterrupt
 returns-3 c =
-    let handler = c .before .before .before in
-    let lines = handler .before .before in
+    let outside = c .before in
+    let handler = outside .before in
+    let lines = handler .before in
     rw (
-      sym (handler .in-handler .ensures) ∙ c .before .before .if2 .left,
-      ← lines .before .byte-at .ensures,
-      ← lines .byte-at2 .ensures,
-      ne-eqb _ _ (handler .before .if1 .left),
-      ← c .before .byte-at3 .ensures,
-    ) (c .is-awake .ensures)
+      c .byte-at3 .ensures,
+      sym (handler .in-handler .ensures) ∙ outside .if2 .left,
+      ← lines .before .before .byte-at .ensures,
+      ← lines .before .byte-at2 .ensures,
+      ne-eqb _ _ (lines .if1 .left),
+    )
 
 pub takes-interrupt-spec : {M : Type 1} → statement M
 takes-interrupt-spec =
@@ -54,5 +52,4 @@ takes-interrupt-spec =
     in-handler-requires
     returns-2
     byte-at-requires-3
-    is-awake-requires
     returns-3)

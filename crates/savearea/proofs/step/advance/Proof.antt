@@ -4,8 +4,8 @@ use borrow.Author.Needs.{needs}
 use Rattle.savearea.proofs.step.advance.Statement.{statement}
 use Rattle.savearea.proofs.step.advance.Tie as tie
 
-get-counter-requires : tie.Need-get-counter-requires
-get-counter-requires c κs = search needs
+get-half-requires : tie.Need-get-half-requires
+get-half-requires c κs = search needs
 
 cast-at : tie.Need-cast-at
 cast-at c = search needs
@@ -21,9 +21,8 @@ same-length c = search needs
 
 returns : tie.Need-returns
 unfolding advanced
-returns c = cc
+returns c = rw (c .before .before .put-half .ensures, c .before .before .before .before .get-half .ensures)
 
 pub advance-spec : {M : Type 1} → statement M
 advance-spec =
-    tie.close
-    (tie.spec get-counter-requires cast-at add-put-half put-half-requires same-length returns)
+    tie.close (tie.spec get-half-requires cast-at add-put-half put-half-requires same-length returns)

@@ -18,7 +18,10 @@ same-length c = search needs
 
 returns : tie.Need-returns
 unfolding faults
-returns c = cc
+returns c =
+    let fault = c .before .before in
+    let state = fault .before .before .before .before in
+    rw (fault .put2 .ensures, state .put .ensures, state .before .before .fault-number .ensures)
 
 pub fault-spec : {M : Type 1} → statement M
 fault-spec =

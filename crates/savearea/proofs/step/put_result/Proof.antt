@@ -15,7 +15,9 @@ same-length c = search needs
 
 returns : tie.Need-returns
 unfolding resulted
-returns c = cc
+returns c =
+    let advance = c .before .before in
+    rw (advance .advance .ensures, advance .before .before .before .before .put-word .ensures)
 
 pub put-result-spec : {M : Type 1} → statement M
 put-result-spec =

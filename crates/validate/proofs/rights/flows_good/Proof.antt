@@ -1,15 +1,14 @@
 -- The loop stops at the first row that no flow lines give; the invariant: each before s is given by some.
 -- The bytes past the counts are good where they are 0.
 use Prim.Native.Nat.{_-_}
-use mathlib.Core.List.{[]}
 use native.Mathlib.Nat.{add-sub-cancel-left}
 use native.Mathlib.Omega.{arith}
 use borrow.Author.Needs.{needs}
 use lib.Dec.{eqb}
 use Rattle.policy.specs.Limits.{single}
-use Rattle.validate.specs.Parts.{namesOf}
+use Rattle.linerules.specs.Parts.{counted}
 use Rattle.validate.specs.Rows.{rowGood}
-use Rattle.validate.proofs.Laws.Loops.{Tested, test-none, test-found, test-more, test-done}
+use Rattle.policy.proofs.Laws.Loops.{Tested, test-none, test-found, test-more, test-done}
 use Rattle.validate.proofs.Laws.Rows.{rowOf}
 use Rattle.validate.proofs.Laws.Past.{flows-rows}
 use Rattle.validate.proofs.rights.flows_good.Statement.{statement}
@@ -50,7 +49,7 @@ returns c =
     let start = c .before .before .before .before .before .before in
     let a = start .args in
     rw (
-      flows-rows single (namesOf (a .segments) 0 []) (a .flows .now) 1024 (start .pre .1) (omega arith),
+      flows-rows single (counted (a .segments) 0 0) (a .flows .now) 1024 (start .pre .1) (omega arith),
       ← test-found _ _ _ _
           (c .before .before .before .loop-test .taken)
           (rw add-sub-cancel-left at (c .before .flow-row-good .ensures))
@@ -82,7 +81,7 @@ returns-2 c =
     let start = c .before .before .before .before in
     let a = start .args in
     rw (
-      flows-rows single (namesOf (a .segments) 0 []) (a .flows .now) 1024 (start .pre .1) (omega arith),
+      flows-rows single (counted (a .segments) 0 0) (a .flows .now) 1024 (start .pre .1) (omega arith),
       ← test-done _ _ _ (c .before .before .loop .inv) (c .before .loop-test .left),
     ) (c .bytes-unused .ensures)
 

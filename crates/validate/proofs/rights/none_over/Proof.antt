@@ -5,7 +5,7 @@ use borrow.Author.Needs.{needs}
 use borrow.Author.Tests.{le-leb, lt-leb}
 use lib.Dec.{leb}
 use lib.ListN.{getD, length}
-use Rattle.validate.proofs.Laws.Loops.{Told, told-none, told-found, told-more, told-done}
+use Rattle.policy.proofs.Laws.Loops.{Told, told-none, told-found, told-more, told-done}
 use Rattle.validate.proofs.rights.none_over.Statement.{statement}
 use Rattle.validate.proofs.rights.none_over.Tie as tie
 

@@ -4,7 +4,7 @@ use borrow.Author.Needs.{needs}
 use borrow.Author.Tests.{eq-eqb, ne-eqb}
 use lib.Dec.{eqb}
 use lib.ListN.{getD}
-use Rattle.validate.proofs.Laws.Loops.{Tested, test-none, test-found, test-more, test-done}
+use Rattle.policy.proofs.Laws.Loops.{Tested, test-none, test-found, test-more, test-done}
 use Rattle.validate.proofs.rights.off_saves.Statement.{statement}
 use Rattle.validate.proofs.rights.off_saves.Tie as tie
 

@@ -1,14 +1,15 @@
 -- The loop stops at the first row that no right lines give; the invariant: each before p is given by some.
 -- The bytes past the counts are good where they are 0.
 use Prim.Native.Nat.{_-_}
+use mathlib.Core.List.{[]}
 use native.Mathlib.Nat.{add-sub-cancel-left}
 use native.Mathlib.Omega.{arith}
 use borrow.Author.Needs.{needs}
 use Rattle.policy.specs.Clash.{isSave}
 use Rattle.policy.specs.Limits.{single}
-use Rattle.validate.specs.Parts.{namesOf}
+use Rattle.linerules.specs.Parts.{placed}
 use Rattle.validate.specs.Rows.{rowGood}
-use Rattle.validate.proofs.Laws.Loops.{Tested, test-none, test-found, test-more, test-done}
+use Rattle.policy.proofs.Laws.Loops.{Tested, test-none, test-found, test-more, test-done}
 use Rattle.validate.proofs.Laws.Rows.{rowOf}
 use Rattle.validate.proofs.Laws.Past.{rights-rows}
 use Rattle.validate.proofs.rights.rights_good.Statement.{statement}
@@ -16,7 +17,7 @@ use Rattle.validate.proofs.rights.rights_good.Tie as tie
 
 abbrev Inv-loop : tie.InvT-loop
 Inv-loop save rights segments partitions p₀ p =
-    Tested partitions (λ r. rowGood 3 segments (isSave (namesOf segments partitions save)) (rowOf rights r)) p
+    Tested partitions (λ r. rowGood 3 segments (isSave (placed segments partitions [] [] [] save)) (rowOf rights r)) p
 
 abbrev μ-loop : tie.MeasureT-loop
 μ-loop save rights segments partitions p₀ p = partitions - p
@@ -50,7 +51,7 @@ returns c =
     let start = c .before .before .before .before .before .before .before in
     let a = start .args in
     rw (
-      rights-rows single (namesOf (a .segments) (a .partitions) (a .save .now)) (a .rights .now) 256 (start .pre .1) (omega arith),
+      rights-rows single (placed (a .segments) (a .partitions) [] [] [] (a .save .now)) (a .rights .now) 256 (start .pre .1) (omega arith),
       ← test-found _ _ _ _
           (c .before .before .before .loop-test .taken)
           (rw add-sub-cancel-left at (c .before .right-row-good .ensures))
@@ -82,7 +83,7 @@ returns-2 c =
     let start = c .before .before .before .before .before in
     let a = start .args in
     rw (
-      rights-rows single (namesOf (a .segments) (a .partitions) (a .save .now)) (a .rights .now) 256 (start .pre .1) (omega arith),
+      rights-rows single (placed (a .segments) (a .partitions) [] [] [] (a .save .now)) (a .rights .now) 256 (start .pre .1) (omega arith),
       ← test-done _ _ _ (c .before .before .loop .inv) (c .before .loop-test .left),
     ) (c .bytes-unused .ensures)
 

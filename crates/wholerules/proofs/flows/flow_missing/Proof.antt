@@ -5,7 +5,7 @@ use mathlib.Core.Path.{_∙_}
 use mathlib.Core.List.{[]}
 use Rattle.wholerules.specs.Parts.{partsOf, reachOf}
 use Rattle.wholerules.proofs.Laws.Sources.{targetLacks, targets-told, by-target}
-use Rattle.wholerules.proofs.Laws.Loops.{Searched, search-none, search-found, search-more, search-done}
+use Rattle.policy.proofs.Laws.Loops.{Searched, search-none, search-found, search-more, search-done}
 use Rattle.wholerules.proofs.flows.flow_missing.Statement.{statement}
 use Rattle.wholerules.proofs.flows.flow_missing.Tie as tie
 

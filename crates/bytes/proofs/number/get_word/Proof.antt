@@ -1,0 +1,51 @@
+-- The four bytes read, joined as the definition joins them.
+use Rattle.bytes.specs.Numbers.{word}
+use borrow.Author.Needs.{needs}
+use Rattle.bytes.proofs.number.get_word.Statement.{statement}
+use Rattle.bytes.proofs.number.get_word.Tie as tie
+
+mul-i : tie.Need-mul-i
+mul-i c = search needs
+
+byte-at-requires : tie.Need-byte-at-requires
+byte-at-requires c κs = search needs
+
+add-byte-at : tie.Need-add-byte-at
+add-byte-at c = search needs
+
+byte-at-requires-2 : tie.Need-byte-at-requires-2
+byte-at-requires-2 c κs = search needs
+
+add-byte-at-2 : tie.Need-add-byte-at-2
+add-byte-at-2 c = search needs
+
+byte-at-requires-3 : tie.Need-byte-at-requires-3
+byte-at-requires-3 c κs = search needs
+
+add-byte-at-3 : tie.Need-add-byte-at-3
+add-byte-at-3 c = search needs
+
+byte-at-requires-4 : tie.Need-byte-at-requires-4
+byte-at-requires-4 c κs = search needs
+
+joined-requires : tie.Need-joined-requires
+joined-requires c κs = search needs
+
+returns : tie.Need-returns
+unfolding word
+returns c = cc
+
+pub get-word-spec : {M : Type 1} → statement M
+get-word-spec =
+    tie.close
+    (tie.spec
+    mul-i
+    byte-at-requires
+    add-byte-at
+    byte-at-requires-2
+    add-byte-at-2
+    byte-at-requires-3
+    add-byte-at-3
+    byte-at-requires-4
+    joined-requires
+    returns)

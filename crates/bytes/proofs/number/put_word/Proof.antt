@@ -1,0 +1,67 @@
+-- The four bytes are put in the order of the definition.
+use Rattle.bytes.specs.Numbers.{withWord}
+use borrow.Author.Needs.{needs}
+use Rattle.bytes.proofs.number.put_word.Statement.{statement}
+use Rattle.bytes.proofs.number.put_word.Tie as tie
+
+mul-i : tie.Need-mul-i
+mul-i c = search needs
+
+low-requires : tie.Need-low-requires
+low-requires c κs = search needs
+
+put-requires : tie.Need-put-requires
+put-requires c κs = search needs
+
+add-put : tie.Need-add-put
+add-put c = search needs
+
+digit-requires : tie.Need-digit-requires
+digit-requires c κs = search needs
+
+put-requires-2 : tie.Need-put-requires-2
+put-requires-2 c κs = search needs
+
+add-put-2 : tie.Need-add-put-2
+add-put-2 c = search needs
+
+digit-requires-2 : tie.Need-digit-requires-2
+digit-requires-2 c κs = search needs
+
+put-requires-3 : tie.Need-put-requires-3
+put-requires-3 c κs = search needs
+
+add-put-3 : tie.Need-add-put-3
+add-put-3 c = search needs
+
+digit-requires-3 : tie.Need-digit-requires-3
+digit-requires-3 c κs = search needs
+
+put-requires-4 : tie.Need-put-requires-4
+put-requires-4 c κs = search needs
+
+same-length : tie.Need-same-length
+same-length c = search needs
+
+returns : tie.Need-returns
+unfolding withWord
+returns c = cc
+
+pub put-word-spec : {M : Type 1} → statement M
+put-word-spec =
+    tie.close
+    (tie.spec
+    mul-i
+    low-requires
+    put-requires
+    add-put
+    digit-requires
+    put-requires-2
+    add-put-2
+    digit-requires-2
+    put-requires-3
+    add-put-3
+    digit-requires-3
+    put-requires-4
+    same-length
+    returns)

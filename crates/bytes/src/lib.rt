@@ -1,0 +1,15 @@
+// Bytes and halves that are lent: an entry or 0 past the end, and numbers of two and of four bytes, lowest byte first.
+// Every function is total.
+mod entry;
+mod number;
+
+pub use entry::byte_at;
+pub use entry::clear;
+pub use entry::half_at;
+pub use entry::put;
+pub use entry::wide;
+pub use number::get_half;
+pub use number::get_word;
+pub use number::low;
+pub use number::put_half;
+pub use number::put_word;

@@ -1,0 +1,103 @@
+// Single fields: where one ends, whether it is a given word, and what digits or letters it has.
+ghost use mathlib.Core.Path.{_≡_};
+ghost use lib.Dec.{eqb};
+ghost use Rattle.text.specs.Digits.{digitsRead};
+ghost use Rattle.text.specs.Bytes.{same as sameBytes};
+ghost use Rattle.text.specs.Cut.{tab};
+ghost use Rattle.text.specs.Number.{letters};
+ghost use Rattle.text.specs.Places.{upTo, endAt};
+use text::Digits;
+use text::Number;
+
+// The place of the first byte b at or after `from`; where there is none, the end, or `from` itself past the end.
+pub fn find(s: &[u8], from: usize, b: u8) -> usize
+    ensures { λ r. ⌜ r ≡ endAt b (now (s .entry)) from ⌝ }
+{
+    let mut i = from;
+    while i < s.len() {
+        if s[i] == b {
+            return i;
+        }
+        i += 1;
+    }
+    i
+}
+
+// The end of the field from a place on: a tab, a line end or the end of the text.
+pub(crate) fn field_end(text: &[u8], from: usize) -> usize
+    ensures { λ r. ⌜ r ≡ endAt tab (upTo (now (text .entry)) from) from ⌝ }
+{
+    let mut i = from;
+    while i < text.len() {
+        let b = text[i];
+        if (b == b'\t') | (b == b'\n') {
+            return i;
+        }
+        i += 1;
+    }
+    i
+}
+
+// Whether a field ends at a place.
+pub(crate) fn ends(text: &[u8], at: usize) -> bool
+    ensures { λ r. ⌜ r ≡ eqb (endAt tab (upTo (now (text .entry)) at) at) at ⌝ }
+{
+    if text.len() <= at {
+        return true;
+    }
+    let b = text[at];
+    (b == b'\t') | (b == b'\n')
+}
+
+// The digits from a place on, at most five of them.
+pub(crate) fn digits_from(text: &[u8], from: usize) -> Digits
+    ensures { λ r. ⌜ r ≡ digitsRead (now (text .entry)) from ⌝ }
+{
+    let mut i = from;
+    let mut value: u32 = 0;
+    while i < text.len() {
+        let b = text[i];
+        if (b < b'0') | (b'9' < b) {
+            return Digits { value, end: i };
+        }
+        if from + 5 <= i {
+            return Digits { value, end: i };
+        }
+        value = value * 10 + (b - b'0') as u32;
+        i += 1;
+    }
+    Digits { value, end: i }
+}
+
+// Whether a and b have the same bytes.
+pub(crate) fn same(a: &[u8], b: &[u8]) -> bool
+    ensures { λ r. ⌜ r ≡ sameBytes (now (a .entry)) (now (b .entry)) ⌝ }
+{
+    if a.len() != b.len() {
+        return false;
+    }
+    let mut i = 0;
+    while i < a.len() {
+        if a[i] != b[i] {
+            return false;
+        }
+        i += 1;
+    }
+    true
+}
+
+// The letters of a right: r is 1, w is 2, rw is 3.
+pub(crate) fn letters_of(field: &[u8]) -> Number
+    ensures { λ r. ⌜ r ≡ letters (now (field .entry)) ⌝ }
+{
+    if same(field, b"r") {
+        return Number::Value(1);
+    }
+    if same(field, b"w") {
+        return Number::Value(2);
+    }
+    if same(field, b"rw") {
+        return Number::Value(3);
+    }
+    Number::Malformed
+}

@@ -1,0 +1,119 @@
+// Run: ticks by stretches, each of one slot and so of its partition, and the place moves after each stretch.
+use calls::MOST_TICKS_OF_RUN;
+use calls::Outcome;
+use calls::Placed;
+use machine::Place;
+use policy::MEMORY;
+use policy::Policy;
+use schedule::is_place;
+use schedule::lesser;
+use schedule::move_by;
+use tick::tick;
+use validate::passes_test;
+ghost use mathlib.Core.Path.{_≡_};
+ghost use mathlib.Core.Bool.{true};
+ghost use lib.ListN.{length};
+ghost use Rattle.policy.specs.Limits.{single};
+ghost use Rattle.policy.specs.Record.{viewOf};
+ghost use Rattle.policy.specs.Sound.{soundOf};
+ghost use Rattle.machine.specs.Machine.{Stands};
+ghost use Rattle.tick.specs.Seat.{seatOf, Seated};
+ghost use Rattle.calls.specs.Run.{stateOf, afterTicks, runAnswer, afterRun};
+ghost use Rattle.kernel.specs.Stretch.{tickedBy};
+
+// n ticks of the partition with this code and this save segment, and its rights from `row` on. After one that does
+// nothing the others do nothing either.
+fn stretch<'a>(
+    memory: &mut [u8],
+    base: &'a [u16; 32],
+    size: &'a [u16; 32],
+    rights: &'a [u8; 256],
+    segments: u8,
+    row: u16,
+    code: u8,
+    save: u8,
+    n: u32,
+)
+    requires { ⌜ Seated (now base) (now size) segments row code save (length (now memory)) ⌝ }
+    ensures { λ _.
+        ⌜
+        now (memory .exit)
+        ≡ tickedBy (seatOf (now (base .entry)) (now (size .entry)) (now (rights .entry)) segments row) code save n
+        (now (memory .entry))
+        ⌝ }
+{
+    let mut i: u32 = 0;
+    while i < n {
+        if !tick(memory, base, size, rights, segments, row, code, save) {
+            return;
+        }
+        i += 1;
+    }
+}
+
+fn run_ticks(policy: Policy, memory: &mut [u8], place: Place, n: u32) -> Place
+    requires { ⌜ (soundOf policy ≡ true) × Stands single (viewOf policy) (stateOf (now memory) place) ⌝ }
+    ensures { λ r. ⌜ stateOf (now (memory .exit)) r ≡ afterTicks (viewOf policy) n (stateOf (now (memory .entry)) place) ⌝ }
+{
+    let mut here = place;
+    let mut left: u32 = n;
+    while 0 < left {
+        let slot = here.slot as usize;
+        let owner = policy.owner[slot] as usize;
+        let code = policy.code[owner];
+        let save = policy.save[owner];
+        let ticks = policy.ticks[slot];
+        let count = lesser(left, ticks as u32 - here.used);
+        stretch(
+            memory,
+            &policy.base,
+            &policy.size,
+            &policy.rights,
+            policy.segments,
+            32 * (owner as u16),
+            code,
+            save,
+            count,
+        );
+        here = move_by(here, count, ticks, policy.slots);
+        left -= count;
+    }
+    here
+}
+
+pub fn run(policy: Policy, memory: &mut [u8], place: Place, n: u32) -> Placed
+    ensures { λ r.
+        ⌜
+        (r ≡ runAnswer policy (stateOf (now (memory .entry)) place) n)
+        × (now (memory .exit) ≡ afterRun policy (stateOf (now (memory .entry)) place) n .memory)
+        ⌝ }
+{
+    if memory.len() != MEMORY {
+        return Placed {
+            outcome: Outcome::WrongMemory,
+            place,
+        };
+    }
+    if !passes_test(policy) {
+        return Placed {
+            outcome: Outcome::Unsound,
+            place,
+        };
+    }
+    if !is_place(&policy.ticks, policy.slots, place) {
+        return Placed {
+            outcome: Outcome::NoPlace,
+            place,
+        };
+    }
+    if MOST_TICKS_OF_RUN < n {
+        return Placed {
+            outcome: Outcome::TooManyTicks,
+            place,
+        };
+    }
+    Placed {
+        outcome: Outcome::Done,
+        place: run_ticks(policy, memory, place, n),
+    }
+}

@@ -1,0 +1,55 @@
+// A block of a manual, of the kind that its first line names.
+use crate::file::Seen;
+use crate::file::show_verdict;
+use crate::program::try_lines;
+use crate::reading::check_policy;
+use script::field;
+use script::part;
+use script::past;
+use script::same;
+use script::show;
+use script::show_number;
+use script::word;
+
+// Whether a block is the report on a text.
+fn is_report(text: &[u8], block: &[u8]) -> bool {
+    let mut out = [0u8; 640];
+    let n = io::count(checking::report_on(text, &mut out) as isize, &out);
+    same(&out[..n], block)
+}
+
+// A policy block. The last one that is accepted is what the lines after it are about.
+fn on_policy(text: &[u8], header: &[u8], from: usize, to: usize, seen: Seen) -> Seen {
+    let mut next = seen;
+    let verdict = check_policy(header, part(text, from, to));
+    show_verdict(verdict.right, seen.line);
+    if verdict.accepted {
+        next.from = from;
+        next.to = to;
+    }
+    next
+}
+
+// A block that ends at a place. Where the line that closes it is no bare fence, it is wrong.
+pub(crate) fn on_block(text: &[u8], to: usize, closed: bool, seen: Seen) -> Seen {
+    let header = field(text, seen.at, b'\n');
+    let from = past(text, seen.at, b'\n');
+    let first = word(header, 0);
+    let base = part(text, seen.from, seen.to);
+    show(part(first, 3, first.len()));
+    show_number(b" ", seen.block);
+    show(b": ");
+    if closed & same(first, b"```policy") {
+        return on_policy(text, header, from, to, seen);
+    }
+    if closed & same(header, b"```report") {
+        show_verdict(is_report(base, part(text, from, to)), seen.line);
+        return seen;
+    }
+    if closed & (same(header, b"```lines") | same(header, b"```program")) {
+        try_lines(base, part(text, from, to), seen.line);
+        return seen;
+    }
+    show_verdict(false, seen.line);
+    seen
+}

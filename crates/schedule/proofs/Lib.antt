@@ -1,0 +1,2 @@
+-- Laws that the proofs of this crate and of those above cite.
+pub mod Laws

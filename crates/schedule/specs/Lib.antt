@@ -1,0 +1,2 @@
+-- Where ticks lead.
+pub mod Places

@@ -1,0 +1,8 @@
+// The schedule in time: which places a Run takes, where the place goes, and the ticks of one round.
+mod place;
+mod round;
+
+pub use place::is_place;
+pub use place::lesser;
+pub use place::move_by;
+pub use round::round_ticks;

@@ -1,0 +1,47 @@
+// What the readers find, each with the place where it leaves off.
+use crate::line::Cursor;
+use crate::line::Kind;
+use crate::line::Line;
+use crate::line::Number;
+
+// What digits write, and where they end.
+pub struct Digits {
+    pub value: u32,
+    pub end: usize,
+}
+
+// The record word.
+pub struct WordRead {
+    pub kind: Kind,
+    pub next: Cursor,
+}
+
+// A number, or the letters of a right.
+pub struct NumberRead {
+    pub number: Number,
+    pub next: Cursor,
+}
+
+// Whether the line ends.
+pub struct EndRead {
+    pub ended: bool,
+    pub next: Cursor,
+}
+
+// What stands in a line, by the readers' order: every line has the record word and two numbers, then letters, a number or
+// nothing, and the line end. `next` is where the last reader leaves the place.
+pub struct FieldsRead {
+    pub kind: Kind,
+    pub first: Number,
+    pub second: Number,
+    pub letters: Number,
+    pub third: Number,
+    pub ended: bool,
+    pub next: Cursor,
+}
+
+// What a line says, and where the place is left.
+pub struct LineRead {
+    pub line: Line,
+    pub next: Cursor,
+}

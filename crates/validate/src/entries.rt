@@ -1,0 +1,61 @@
+// Rules 4 and 5 for the segments, partitions and slots of a record.
+use linerules::partition_passes;
+use linerules::segment_passes;
+use linerules::slot_passes;
+ghost use mathlib.Core.Path.{_≡_};
+ghost use mathlib.Core.List.{[]};
+ghost use Rattle.policy.specs.Below.{eachBelow};
+ghost use Rattle.policy.specs.Limits.{single};
+ghost use Rattle.policy.specs.Sound.{goodSegment, goodPartition, goodSlot};
+ghost use Rattle.linerules.specs.Parts.{placed, scheduled};
+
+pub(crate) fn segments_good<'a>(base: &'a [u16], size: &'a [u16], segments: u8) -> bool
+    ensures { λ r.
+        ⌜ r ≡ eachBelow segments (goodSegment single (placed 0 0 (now (base .entry)) (now (size .entry)) [] [])) ⌝ }
+{
+    let mut i = 0;
+    while i < segments {
+        if !segment_passes(base, size, i) {
+            return false;
+        }
+        i += 1;
+    }
+    true
+}
+
+pub(crate) fn partitions_good<'a>(
+    size: &'a [u16],
+    code: &'a [u8],
+    save: &'a [u8],
+    segments: u8,
+    partitions: u8,
+) -> bool
+    ensures { λ r.
+        ⌜
+        r ≡ eachBelow partitions
+        (goodPartition single (placed segments 0 [] (now (size .entry)) (now (code .entry)) (now (save .entry))))
+        ⌝ }
+{
+    let mut i = 0;
+    while i < partitions {
+        if !partition_passes(size, code, save, segments, i) {
+            return false;
+        }
+        i += 1;
+    }
+    true
+}
+
+pub(crate) fn slots_good<'a>(owner: &'a [u8], ticks: &'a [u16], partitions: u8, slots: u8) -> bool
+    ensures { λ r.
+        ⌜ r ≡ eachBelow slots (goodSlot single (scheduled partitions (now (owner .entry)) (now (ticks .entry)))) ⌝ }
+{
+    let mut i = 0;
+    while i < slots {
+        if !slot_passes(owner, ticks, partitions, i) {
+            return false;
+        }
+        i += 1;
+    }
+    true
+}
