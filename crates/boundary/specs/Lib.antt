@@ -1,1 +1,2 @@
+-- The results of the operations, as C has them.
 pub mod Results

@@ -1,4 +1,5 @@
--- 01, "Memory and policy": "little-endian". Numbers of two and of four bytes, lowest byte first; a byte past the end counts as 0.
+-- 01, "Memory and policy": "little-endian". Numbers of two and of four bytes, lowest byte first; a byte past the end
+-- counts as 0.
 use Prim.Native.Nat.{ℕ, _+_, _*_, _%_, _/_}
 use mathlib.Core.List.{List}
 use lib.ListN.{getD, set}

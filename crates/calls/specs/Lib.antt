@@ -1,4 +1,5 @@
--- In reading order: what an operation answers, the three operations, lists of calls, and the separation that demand 3 asks.
+-- In reading order: what an operation answers, the three operations, lists of calls, and the separation that demand 3
+-- asks.
 pub mod Outcomes
 pub mod Start
 pub mod Pend

@@ -38,8 +38,8 @@ module _ (policy : Policy) where
   ticks [] x = 0
   ticks (c ∷ cs) x = did c x + ticks cs (step c x)
 
-  -- "A line is pended for p after k ticks if a Pend of it for p that isn't refused stands where the Runs before it in its list have done k ticks
-  -- in all."
+  -- "A line is pended for p after k ticks if a Pend of it for p that isn't refused stands where the Runs before it in
+  -- its list have done k ticks in all."
   pub record PendedAfter (cs : List Call) (x : State) (k p line : ℕ) : Type 0 where
     pub before : List Call
     pub later : List Call
@@ -47,8 +47,8 @@ module _ (policy : Policy) where
     pub ticks-before : ticks before x ≡ k
     pub not-refused : pendOutcome policy (exec before x .memory) p line ≡ Done
 
-  -- ""The same lines pended between the same ticks" means: for each k from 0 to the ticks in all, the same lines are pended for p after k ticks in
-  -- both lists."
+  -- ""The same lines pended between the same ticks" means: for each k from 0 to the ticks in all, the same lines are
+  -- pended for p after k ticks in both lists."
   unfoldable pub SamePended : List Call → State → List Call → State → ℕ → ℕ → Type 0
   SamePended cs x ds y all p = (k : ℕ) → k ≤ all → (line : ℕ) → PendedAfter cs x k p line ↔ PendedAfter ds y k p line
 

@@ -1,14 +1,16 @@
--- 01, "The four operations and when they say no": the number of each answer, and the tests of the refusals that all three share.
+-- 01, "The four operations and when they say no": the number of each answer, and the tests of the refusals that all
+-- three share.
 use Prim.Native.Nat.{ℕ}
 use mathlib.Core.Bool.{Bool, true, false, not, cond}
-use mathlib.Core.List.{List, [], _∷_}
+use mathlib.Core.List.{List}
 use lib.ListN.{length}
 use lib.Dec.{eqb}
 use Rattle.policy.specs.declared.record.Policy.{Policy}
 use Rattle.policy.specs.Limits.{Limits}
 use Rattle.policy.specs.Sound.{soundOf}
 use Rattle.calls.specs.declared.Outcome.{Outcome}
-use Rattle.calls.specs.declared.Outcome.the-variants.{Done, WrongMemory, Unsound, NoPartition, NoLine, NoPlace, TooManyTicks}
+use Rattle.calls.specs.declared.Outcome.the-variants.{Done, WrongMemory, Unsound, NoPartition, NoLine, NoPlace}
+use Rattle.calls.specs.declared.Outcome.the-variants.{TooManyTicks}
 
 -- "These three return number 0 when they act."
 abbrev pub outcomeNumber : Outcome → ℕ
@@ -28,16 +30,6 @@ isDone NoPartition = false
 isDone NoLine = false
 isDone NoPlace = false
 isDone TooManyTicks = false
-
--- A refusal, with the test whether it applies.
-pub record Test : Type 0 where
-  pub applies : Bool
-  pub outcome : Outcome
-
--- The first of the refusals that applies, or that the operation acts.
-abbrev pub firstOf : List Test → Outcome
-firstOf [] = Done
-firstOf (t ∷ ts) = cond (t .applies) (t .outcome) (firstOf ts)
 
 -- "9: memory isn't 16,384 bytes"
 abbrev pub wrongMemory : Limits → List ℕ → Bool

@@ -1,17 +1,19 @@
--- 01: "Pend a line. 9, 10, then 11: no such partition. 12: line above 7. Else that pended bit becomes 1 and no other bit of memory changes."
+-- 01: "Pend a line. 9, 10, then 11: no such partition. 12: line above 7. Else that pended bit becomes 1 and no other
+-- bit of memory changes."
 use Prim.Native.Nat.{ℕ, _+_, _^_}
 use mathlib.Core.List.{List, [], _∷_}
 use lib.Bits.{bitOr}
 use lib.ListN.{getD, set}
 use lib.Dec.{leb, ltb}
 use Rattle.policy.specs.declared.record.Policy.{Policy}
+use Rattle.policy.specs.First.{firstOf}
 use Rattle.policy.specs.Limits.{single}
 use Rattle.policy.specs.View.{View}
 use Rattle.policy.specs.Record.{viewOf}
 use Rattle.machine.specs.Layout.{layout}
 use Rattle.calls.specs.declared.Outcome.{Outcome}
-use Rattle.calls.specs.declared.Outcome.the-variants.{WrongMemory, Unsound, NoPartition, NoLine}
-use Rattle.calls.specs.Outcomes.{firstOf, wrongMemory, unsound, acts}
+use Rattle.calls.specs.declared.Outcome.the-variants.{Done, WrongMemory, Unsound, NoPartition, NoLine}
+use Rattle.calls.specs.Outcomes.{wrongMemory, unsound, acts}
 
 -- Lines are numbered from 0; 12: "line above 7"
 abbrev pub lastLine : ℕ
@@ -19,11 +21,11 @@ lastLine = 7
 
 unfoldable pub pendOutcome : Policy → List ℕ → ℕ → ℕ → Outcome
 pendOutcome policy memory partition line =
-    firstOf
-    (record { applies = wrongMemory single memory; outcome = WrongMemory }
-    ∷ record { applies = unsound policy; outcome = Unsound }
-    ∷ record { applies = leb (policy .partitions) partition; outcome = NoPartition }
-    ∷ record { applies = ltb lastLine line; outcome = NoLine }
+    firstOf Done
+    (record { applies = wrongMemory single memory; answer = WrongMemory }
+    ∷ record { applies = unsound policy; answer = Unsound }
+    ∷ record { applies = leb (policy .partitions) partition; answer = NoPartition }
+    ∷ record { applies = ltb lastLine line; answer = NoLine }
     ∷ [])
 
 -- Where the pended lines of a partition stand.

@@ -1,10 +1,11 @@
--- 01: "Run n ticks. 9, 10, then 13: slot not in the schedule, or ticks used at or past the slot's. 14: n over 10,000. Else n ticks are done and the
--- new place is returned; n = 0 changes nothing."
+-- 01: "Run n ticks. 9, 10, then 13: slot not in the schedule, or ticks used at or past the slot's. 14: n over 10,000.
+-- Else n ticks are done and the new place is returned; n = 0 changes nothing."
 use Prim.Native.Nat.{ℕ, zero, suc}
 use mathlib.Core.Bool.{not}
 use mathlib.Core.List.{List, [], _∷_}
 use lib.Dec.{ltb}
 use Rattle.policy.specs.declared.record.Policy.{Policy}
+use Rattle.policy.specs.First.{firstOf}
 use Rattle.policy.specs.Limits.{single}
 use Rattle.policy.specs.View.{View}
 use Rattle.policy.specs.Record.{viewOf}
@@ -12,9 +13,9 @@ use Rattle.machine.specs.declared.Place.{Place}
 use Rattle.machine.specs.Place.{isPlace}
 use Rattle.machine.specs.Machine.{State, next}
 use Rattle.calls.specs.declared.Outcome.{Outcome}
-use Rattle.calls.specs.declared.Outcome.the-variants.{WrongMemory, Unsound, NoPlace, TooManyTicks}
+use Rattle.calls.specs.declared.Outcome.the-variants.{Done, WrongMemory, Unsound, NoPlace, TooManyTicks}
 use Rattle.calls.specs.declared.Placed.{Placed}
-use Rattle.calls.specs.Outcomes.{firstOf, wrongMemory, unsound, acts}
+use Rattle.calls.specs.Outcomes.{wrongMemory, unsound, acts}
 
 abbrev pub stateOf : List ℕ → Place → State
 stateOf memory place = record { memory = memory; place = place }
@@ -25,11 +26,11 @@ mostTicksOfRun = 10000
 
 unfoldable pub runOutcome : Policy → State → ℕ → Outcome
 runOutcome policy x n =
-    firstOf
-    (record { applies = wrongMemory single (x .memory); outcome = WrongMemory }
-    ∷ record { applies = unsound policy; outcome = Unsound }
-    ∷ record { applies = not (isPlace (viewOf policy) (x .place)); outcome = NoPlace }
-    ∷ record { applies = ltb mostTicksOfRun n; outcome = TooManyTicks }
+    firstOf Done
+    (record { applies = wrongMemory single (x .memory); answer = WrongMemory }
+    ∷ record { applies = unsound policy; answer = Unsound }
+    ∷ record { applies = not (isPlace (viewOf policy) (x .place)); answer = NoPlace }
+    ∷ record { applies = ltb mostTicksOfRun n; answer = TooManyTicks }
     ∷ [])
 
 -- n ticks, one after another.

@@ -3,6 +3,7 @@ use Prim.Native.Nat.{ℕ, zero, suc}
 use mathlib.Core.List.{List, [], _∷_}
 use lib.ListN.{replicate}
 use Rattle.policy.specs.declared.record.Policy.{Policy}
+use Rattle.policy.specs.First.{firstOf}
 use Rattle.policy.specs.Limits.{single}
 use Rattle.policy.specs.View.{View}
 use Rattle.policy.specs.Record.{viewOf}
@@ -10,15 +11,15 @@ use Rattle.machine.specs.Bytes.{withPart}
 use Rattle.machine.specs.Layout.{layout}
 use Rattle.machine.specs.Place.{placeOf}
 use Rattle.calls.specs.declared.Outcome.{Outcome}
-use Rattle.calls.specs.declared.Outcome.the-variants.{WrongMemory, Unsound}
+use Rattle.calls.specs.declared.Outcome.the-variants.{Done, WrongMemory, Unsound}
 use Rattle.calls.specs.declared.Placed.{Placed}
-use Rattle.calls.specs.Outcomes.{firstOf, wrongMemory, unsound, acts}
+use Rattle.calls.specs.Outcomes.{wrongMemory, unsound, acts}
 
 unfoldable pub startOutcome : Policy → List ℕ → Outcome
 startOutcome policy memory =
-    firstOf
-    (record { applies = wrongMemory single memory; outcome = WrongMemory }
-    ∷ record { applies = unsound policy; outcome = Unsound }
+    firstOf Done
+    (record { applies = wrongMemory single memory; answer = WrongMemory }
+    ∷ record { applies = unsound policy; answer = Unsound }
     ∷ [])
 
 -- The save segments of the first n partitions become zero.
@@ -29,7 +30,8 @@ cleared v (suc n) memory =
 
 -- Memory after a Start.
 unfoldable pub afterStart : Policy → List ℕ → List ℕ
-afterStart policy memory = acts (startOutcome policy memory) (cleared (viewOf policy) (policy .partitions) memory) memory
+afterStart policy memory =
+    acts (startOutcome policy memory) (cleared (viewOf policy) (policy .partitions) memory) memory
 
 -- "a refused Start returns slot 0 with 0 used", and so does one that acts.
 unfoldable pub startAnswer : Policy → List ℕ → Placed

@@ -1,1 +1,2 @@
+-- The one claim over all cases.
 pub mod Claim

@@ -35,8 +35,8 @@ found memory (b ∷ bs) = same (take (length (b .are)) (drop (b .at) memory)) (b
 pub data Case : Type 0 where
   -- a text, and the number and the line that reading it answers
   reads : List ℕ → ℕ → ℕ → Case
-  -- under the demonstration policy: the bytes put into a memory of zeros before Start, those put after it, the ticks run from slot 0 with 0 used,
-  -- the bytes then found, and the slot and the ticks used then
+  -- under the demonstration policy: the bytes put into a memory of zeros before Start, those put after it, the ticks
+  -- run from slot 0 with 0 used, the bytes then found, and the slot and the ticks used then
   runs : List Bytes → List Bytes → ℕ → List Bytes → ℕ → ℕ → Case
 
 abbrev pub policy : Policy
@@ -62,7 +62,8 @@ allHold (c ∷ cs) = holds c && allHold cs
 abbrev pub without : ℕ → List (List ℕ) → List (List ℕ)
 without i lines = take i lines ++ drop (i + 1) lines
 
--- The save segment of partition 0 stands at 64: its counter at 96, state 98, fault 99, pended 100, enabled 101, in-handler 106.
+-- The save segment of partition 0 stands at 64: its counter at 96, state 98, fault 99, pended 100, enabled 101,
+-- in-handler 106.
 abbrev pub cases : List Case
 cases =
     -- the demonstration head is accepted
@@ -75,8 +76,8 @@ cases =
     ∷ reads (take (length (joined demonstration) - 1) (joined demonstration)) 2 18
     -- K4: segment 1 with base 63, 5, line 2
     ∷ reads (joined (set demonstration 1 (bytesOf "segment\t1\t63\t44\n"))) 5 2
-    -- K5: segment 0 holds hex 01 00 41 00, 08 00 01 04, 00 00 00 00; after Start and 3 ticks byte 256 is 65, counter 8, state 1, place slot 1
-    -- with 0 used
+    -- K5: segment 0 holds hex 01 00 41 00, 08 00 01 04, 00 00 00 00; after Start and 3 ticks byte 256 is 65, counter 8,
+    -- state 1, place slot 1 with 0 used
     ∷ runs (bytes 0 (0x01 ∷ 0x00 ∷ 0x41 ∷ 0x00 ∷ 0x08 ∷ 0x00 ∷ 0x01 ∷ 0x04 ∷ 0x00 ∷ 0x00 ∷ 0x00 ∷ 0x00 ∷ []) ∷ [])
     [] 3 (bytes 256 (65 ∷ []) ∷ bytes 96 (8 ∷ 0 ∷ 1 ∷ 0 ∷ []) ∷ []) 1 0
     -- K6: partition 0 loading from segment 4, fault 3
@@ -90,7 +91,8 @@ cases =
     ∷ runs [] (bytes 96 (60 ∷ []) ∷ []) 1 (bytes 96 (60 ∷ 0 ∷ 1 ∷ 0 ∷ []) ∷ []) 0 1
     ∷ runs [] (bytes 96 (61 ∷ []) ∷ []) 1 (bytes 96 (61 ∷ 0 ∷ 2 ∷ 1 ∷ []) ∷ []) 0 1
     -- K9: pended 6, enabled 7: line 1 taken, pended 4, r7 1
-    ∷ runs [] (bytes 100 (6 ∷ 7 ∷ []) ∷ []) 1 (bytes 100 (4 ∷ 7 ∷ []) ∷ bytes 92 (1 ∷ 0 ∷ 0 ∷ 0 ∷ []) ∷ bytes 106 (1 ∷ []) ∷ []) 0 1
+    ∷ runs [] (bytes 100 (6 ∷ 7 ∷ []) ∷ []) 1
+    (bytes 100 (4 ∷ 7 ∷ []) ∷ bytes 92 (1 ∷ 0 ∷ 0 ∷ 0 ∷ []) ∷ bytes 106 (1 ∷ []) ∷ []) 0 1
     -- K10: 0 − 1 is 4,294,967,295
     ∷ runs (bytes 0 (0x03 ∷ 0x00 ∷ 0x01 ∷ 0x02 ∷ []) ∷ []) (bytes 72 (1 ∷ []) ∷ []) 1
     (bytes 64 (0xff ∷ 0xff ∷ 0xff ∷ 0xff ∷ []) ∷ bytes 96 (4 ∷ 0 ∷ 0 ∷ 0 ∷ []) ∷ []) 0 1

@@ -1,1 +1,2 @@
+-- What reading a text gives the report.
 pub mod Laws

@@ -6,5 +6,4 @@ mod word;
 pub use field::read_end;
 pub use field::read_letters;
 pub use field::read_number;
-pub use scan::find;
 pub use word::read_word;

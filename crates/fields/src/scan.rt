@@ -9,20 +9,6 @@ ghost use Rattle.text.specs.Places.{upTo, endAt};
 use text::Digits;
 use text::Number;
 
-// The place of the first byte b at or after `from`; where there is none, the end, or `from` itself past the end.
-pub fn find(s: &[u8], from: usize, b: u8) -> usize
-    ensures { λ r. ⌜ r ≡ endAt b (now (s .entry)) from ⌝ }
-{
-    let mut i = from;
-    while i < s.len() {
-        if s[i] == b {
-            return i;
-        }
-        i += 1;
-    }
-    i
-}
-
 // The end of the field from a place on: a tab, a line end or the end of the text.
 pub(crate) fn field_end(text: &[u8], from: usize) -> usize
     ensures { λ r. ⌜ r ≡ endAt tab (upTo (now (text .entry)) from) from ⌝ }

@@ -14,8 +14,8 @@ use text::Cursor;
 use text::Kind;
 use text::WordRead;
 
-// Whether the field at a place is this word: the word's bytes stand there, and the field ends after them. No scan for the
-// field's end, and a branch between the two tests: most words that are tried fail the first.
+// Whether the field at a place is this word: the word's bytes stand there, and the field ends after them. No scan for
+// the field's end, and a branch between the two tests: most words that are tried fail the first.
 fn stands(text: &[u8], at: usize, word: &[u8]) -> bool
     requires { ⌜ (at ≤ length (now text)) × (unparted (now word) ≡ true) ⌝ }
     ensures { λ r. ⌜ r ≡ sameBytes (pieceAt tab (upTo (now (text .entry)) at) at) (now (word .entry)) ⌝ }

@@ -53,7 +53,10 @@ fn stretch<'a>(
 
 fn run_ticks(policy: Policy, memory: &mut [u8], place: Place, n: u32) -> Place
     requires { ⌜ (soundOf policy ≡ true) × Stands single (viewOf policy) (stateOf (now memory) place) ⌝ }
-    ensures { λ r. ⌜ stateOf (now (memory .exit)) r ≡ afterTicks (viewOf policy) n (stateOf (now (memory .entry)) place) ⌝ }
+    ensures { λ r.
+        ⌜
+        stateOf (now (memory .exit)) r ≡ afterTicks (viewOf policy) n (stateOf (now (memory .entry)) place)
+        ⌝ }
 {
     let mut here = place;
     let mut left: u32 = n;

@@ -17,7 +17,11 @@ pub fn segment_passes<'a>(bases: &'a [u16], sizes: &'a [u16], i: u8) -> bool
 {
     let base = half_at(bases, i as usize) as u32;
     let size = half_at(sizes, i as usize) as u32;
-    !segment_outside(i, base, size) & !overlaps_earlier(i, bases, sizes, base, size)
+    // Left early, so that the loop below is known to stay inside the arrays, and many entries are tested at once.
+    if segment_outside(i, base, size) {
+        return false;
+    }
+    !overlaps_earlier(i, bases, sizes, base, size)
 }
 
 pub fn partition_passes<'a>(
@@ -34,8 +38,10 @@ pub fn partition_passes<'a>(
 {
     let code = byte_at(codes, i as usize) as u32;
     let save = byte_at(saves, i as usize) as u32;
-    !partition_outside(segments, i, code, save)
-        & !partition_clashes(i, sizes, codes, saves, code, save)
+    if partition_outside(segments, i, code, save) {
+        return false;
+    }
+    !partition_clashes(i, sizes, codes, saves, code, save)
 }
 
 pub fn slot_passes<'a>(owners: &'a [u8], ticks: &'a [u16], partitions: u8, i: u8) -> bool

@@ -1,5 +1,5 @@
-// What each instruction does to the bytes of a save segment, lent as `&mut [u8]`: all of it but for load and store. Every
-// function is total.
+// What each instruction does to the bytes of a save segment, lent as `&mut [u8]`: all of it but for load and store.
+// Every function is total.
 use bytes::get_half;
 use bytes::get_word;
 use bytes::put;

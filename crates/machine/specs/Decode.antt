@@ -1,12 +1,14 @@
--- 01, "A tick": "An instruction is four bytes: opcode, a, b, c. The number n is b + 256 × c. A decoded instruction is one of thirteen kinds, each
--- with its operands. The table of opcodes says for each which operand bytes must be registers, below 8; other bytes may have all values."
+-- 01, "A tick": "An instruction is four bytes: opcode, a, b, c. The number n is b + 256 × c. A decoded instruction is
+-- one of thirteen kinds, each with its operands. The table of opcodes says for each which operand bytes must be
+-- registers, below 8; other bytes may have all values."
 use Prim.Native.Nat.{ℕ, _+_, _*_}
 use mathlib.Core.Bool.{Bool, _&&_, _||_, cond}
 use mathlib.Core.List.{List, [], _∷_}
 use lib.Bits.{bitAnd}
 use lib.ListN.{getD}
 use lib.Dec.{ltb, eqb}
-use Rattle.machine.specs.declared.Instr.the-variants.{Halt, Set, Add, Sub, And, Xor, Shift, Load, Store, Jump, Wait, Listen, Back}
+use Rattle.machine.specs.declared.Instr.the-variants.{Halt, Set, Add, Sub, And, Xor, Shift, Load, Store, Jump}
+use Rattle.machine.specs.declared.Instr.the-variants.{Wait, Listen, Back}
 use Rattle.machine.specs.declared.Decoded.{Decoded}
 use Rattle.machine.specs.declared.Decoded.the-variants.{Runs, Bad}
 

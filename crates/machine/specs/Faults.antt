@@ -1,10 +1,12 @@
--- 01, "A tick": "Faults, the first that applies: 1 counter + 4 is over the code length; 2 bad opcode or register; 5 wait inside a handler
--- or back outside one; 3 segment c not there, or no line gives the right ..; 4 offset at or past the length."
+-- 01, "A tick": "Faults, the first that applies: 1 counter + 4 is over the code length; 2 bad opcode or register; 5
+-- wait inside a handler or back outside one; 3 segment c not there, or no line gives the right ..; 4 offset at or past
+-- the length."
 use Prim.Native.Nat.{ℕ}
 use mathlib.Core.List.{List}
 use lib.ListN.{set}
 use Rattle.machine.specs.declared.Fault.{Fault}
-use Rattle.machine.specs.declared.Fault.the-variants.{CounterOver, BadInstruction, NoRight, OffsetOver, WrongHandler}
+use Rattle.machine.specs.declared.Fault.the-variants.{CounterOver, BadInstruction, NoRight, OffsetOver}
+use Rattle.machine.specs.declared.Fault.the-variants.{WrongHandler}
 use Rattle.machine.specs.Layout.{layout, faulted}
 use Rattle.machine.specs.Save.{withState}
 

@@ -1,5 +1,6 @@
--- 01, "Memory and policy": "The save segment is 44 bytes, little-endian: registers r0 to r7 at 0 to 31, four bytes each; program counter
--- 32–33; state 34 ..; fault 35; pended lines 36 and enabled lines 37 ..; return place 38–39; handler place 40–41; in-handler 42 ..; 43 unused."
+-- 01, "Memory and policy": "The save segment is 44 bytes, little-endian: registers r0 to r7 at 0 to 31, four bytes
+-- each; program counter 32–33; state 34 ..; fault 35; pended lines 36 and enabled lines 37 ..; return place 38–39;
+-- handler place 40–41; in-handler 42 ..; 43 unused."
 use Prim.Native.Nat.{ℕ}
 use Rattle.policy.specs.Limits.{saveSize}
 

@@ -1,5 +1,5 @@
--- In reading order: numbers in bytes, the save segment, instructions, one tick as an effect, the schedule place, and the machine
--- in the names of source document 003.
+-- In reading order: numbers in bytes, the save segment, instructions, one tick as an effect, the schedule place, and
+-- the machine in the names of source document 003.
 pub mod Bytes
 pub mod Layout
 pub mod Save

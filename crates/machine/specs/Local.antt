@@ -1,4 +1,5 @@
--- 01, "A tick": what an interrupt and each instruction but load and store do to the save segment's bytes, and to nothing else.
+-- 01, "A tick": what an interrupt and each instruction but load and store do to the save segment's bytes, and to
+-- nothing else.
 use Prim.Native.Nat.{ℕ, _+_, _-_, _*_, _/_, _%_, _^_}
 use mathlib.Core.Bool.{Bool, not, _&&_, _||_, cond}
 use mathlib.Core.List.{List}
@@ -7,11 +8,13 @@ use lib.Count.{trailingZeros}
 use lib.ListN.{getD, set}
 use lib.Dec.{eqb}
 use Rattle.machine.specs.declared.Instr.{Instr}
-use Rattle.machine.specs.declared.Instr.the-variants.{Halt, Set, Add, Sub, And, Xor, Shift, Load, Store, Jump, Wait, Listen, Back}
+use Rattle.machine.specs.declared.Instr.the-variants.{Halt, Set, Add, Sub, And, Xor, Shift, Load, Store, Jump}
+use Rattle.machine.specs.declared.Instr.the-variants.{Wait, Listen, Back}
 use Rattle.machine.specs.declared.Fault.the-variants.{WrongHandler}
 use Rattle.bytes.specs.Numbers.{half, word, withHalf, withWord}
 use Rattle.machine.specs.Layout.{layout, ready, halted, waiting}
-use Rattle.machine.specs.Save.{register, withRegister, counter, withCounter, state, withState, pended, enabled, inHandler, due}
+use Rattle.machine.specs.Save.{register, withRegister, counter, withCounter, state, withState, pended, enabled}
+use Rattle.machine.specs.Save.{inHandler, due}
 use Rattle.machine.specs.Faults.{faults}
 
 -- "Unless said otherwise the counter gains 4."
@@ -37,38 +40,42 @@ comesBack save =
     (set (withCounter save (half save (layout .return))) (layout .inHandler) 0)
     (faults save WrongHandler)
 
--- What an instruction does to the save bytes alone.
--- 0 halt: "state 1, counter stays"; 1 set: "ra = n"
--- 2 add, 3 sub: "ra = rb + rc for 2, rb − rc for 3, modulo 4,294,967,296"
--- 4 and, 5 xor: "ra = rb and rc, rb xor rc, bit by bit"
--- 6 shift: "ra = rb moved right by (rc modulo 32) bits, zeros in"
--- 7 load, 8 store: nothing here; they see a segment, and Tick says what they do
--- 11 listen: "enabled = a, handler place = n"
+-- What an instruction does to the save bytes alone, by its kind.
 unfoldable pub actsOn : List ℕ → Instr → List ℕ
+-- 0 halt: "state 1, counter stays"
 actsOn save Halt = withState save halted
+-- 1 set: "ra = n"
 actsOn save (Set a n) = resulted save a n
+-- 2 add, 3 sub: "ra = rb + rc for 2, rb − rc for 3, modulo 4,294,967,296"
 actsOn save (Add a b c) = resulted save a ((register save b + register save c) % 4294967296)
 actsOn save (Sub a b c) = resulted save a ((register save b + (4294967296 - register save c)) % 4294967296)
+-- 4 and, 5 xor: "ra = rb and rc, rb xor rc, bit by bit"
 actsOn save (And a b c) = resulted save a (bitAnd (register save b) (register save c))
 actsOn save (Xor a b c) = resulted save a (bitXor (register save b) (register save c))
+-- 6 shift: "ra = rb moved right by (rc modulo 32) bits, zeros in"
 actsOn save (Shift a b c) = resulted save a (register save b / 2 ^ (register save c % 32))
+-- 7 load and 8 store see a segment: Tick.antt says what they do
 actsOn save (Load a b c) = save
 actsOn save (Store a b c) = save
+-- 9 jump, 10 wait: above
 actsOn save (Jump a n) = jumps save a n
 actsOn save Wait = waits save
+-- 11 listen: "enabled = a, handler place = n"
 actsOn save (Listen a n) = advanced (withHalf (set save (layout .enabled) a) (layout .handler) n)
+-- 12 back: above
 actsOn save Back = comesBack save
 
 -- "With state 0 or 3, in-handler 0, and a line that is pended and enabled, the tick takes an interrupt."
 unfoldable pub takesInterrupt : List ℕ → Bool
-takesInterrupt save = not (inHandler save) && (not (eqb (due save) 0) && (eqb (state save) ready || eqb (state save) waiting))
+takesInterrupt save =
+    not (inHandler save) && (not (eqb (due save) 0) && (eqb (state save) ready || eqb (state save) waiting))
 
 -- "the lowest-numbered line that is both pended and enabled"
 abbrev pub lowest : ℕ → ℕ
 lowest lines = trailingZeros 8 lines
 
--- "its pended bit is cleared, r7 becomes the line number, the return place takes the program counter, the counter takes the handler place,
--- in-handler becomes 1, state 0"
+-- "its pended bit is cleared, r7 becomes the line number, the return place takes the program counter, the counter takes
+-- the handler place, in-handler becomes 1, state 0"
 unfoldable pub entered : List ℕ → ℕ → ℕ → ℕ → ℕ → List ℕ
 entered save lines line from handler =
     withState

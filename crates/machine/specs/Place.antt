@@ -1,5 +1,5 @@
--- 01, "A tick": "After each tick the ticks used in the slot gain 1. At the slot's ticks the next slot begins with 0 used; after the last comes
--- slot 0. No instruction can alter the schedule."
+-- 01, "A tick": "After each tick the ticks used in the slot gain 1. At the slot's ticks the next slot begins with 0
+-- used; after the last comes slot 0. No instruction can alter the schedule."
 use Prim.Native.Nat.{ℕ, _+_}
 use mathlib.Core.Bool.{Bool, _&&_, cond}
 use lib.Dec.{ltb}

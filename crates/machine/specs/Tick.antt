@@ -1,4 +1,5 @@
--- 01, "A tick": one tick is an effect, worked out from what the current partition sees and from nothing else, and put into memory.
+-- 01, "A tick": one tick is an effect, worked out from what the current partition sees and from nothing else, and put
+-- into memory.
 use Prim.Native.Nat.{ℕ, _+_, _*_, _%_, _≤_, _<_}
 use mathlib.Core.Path.{_≡_}
 use mathlib.Core.Bool.{Bool, _&&_, _||_, cond}
@@ -7,7 +8,8 @@ use lib.ListN.{length, getD}
 use lib.Dec.{ltb}
 use lib.Seq.{sets}
 use Rattle.machine.specs.declared.Instr.{Instr}
-use Rattle.machine.specs.declared.Instr.the-variants.{Halt, Set, Add, Sub, And, Xor, Shift, Load, Store, Jump, Wait, Listen, Back}
+use Rattle.machine.specs.declared.Instr.the-variants.{Halt, Set, Add, Sub, And, Xor, Shift, Load, Store, Jump}
+use Rattle.machine.specs.declared.Instr.the-variants.{Wait, Listen, Back}
 use Rattle.machine.specs.declared.Decoded.{Decoded}
 use Rattle.machine.specs.declared.Decoded.the-variants.{Runs, Bad}
 use Rattle.machine.specs.declared.Fault.the-variants.{CounterOver, BadInstruction, NoRight, OffsetOver}

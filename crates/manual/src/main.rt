@@ -1,5 +1,6 @@
-// Checks the examples of the manuals with the proved code: reads the manuals, finds their fenced blocks, and writes a line
-// for each. A block that is wrong, unknown or not closed gets the word WRONG, so the stored output has only right ones.
+// Checks the examples of the manuals with the proved code: reads the manuals, finds their fenced blocks, and writes a
+// line for each. A block that is wrong, unknown or not closed gets the word WRONG, so the stored output has only right
+// ones.
 mod block;
 mod file;
 mod program;

@@ -116,8 +116,8 @@ fn show_stand(stand: Stand, line: u32) {
     show_verdict(stand.right, line);
 }
 
-// Obeys the lines of a block, from the line after its fence on, under the policy that the text `base` says, that of zeros
-// where it is refused.
+// Obeys the lines of a block, from the line after its fence on, under the policy that the text `base` says, that of
+// zeros where it is refused.
 pub(crate) fn try_lines(base: &[u8], block: &[u8], fence: u32) {
     let reading = reader::read(base);
     let policy = reading.policy;

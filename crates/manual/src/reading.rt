@@ -27,7 +27,8 @@ fn answer_to(text: &[u8], times: u32, out: &mut [u8]) -> Refusal {
     refusal
 }
 
-// Compares what reading a text answers, repeated so many times, with the k-th word of the block's first line and the next.
+// Compares what reading a text answers, repeated so many times, with the k-th word of the block's first line and the
+// next, which are its last.
 fn compare(header: &[u8], k: u32, text: &[u8], times: u32) -> Verdict {
     let mut out = [0u8; 20000];
     let refusal = answer_to(text, times, &mut out);
@@ -48,8 +49,8 @@ fn compare(header: &[u8], k: u32, text: &[u8], times: u32) -> Verdict {
     }
 }
 
-// A policy block. Its first line has the number and the line, after `cut` where the text's last line end is left off, and
-// after `times` and a count where the text is repeated.
+// A policy block. Its first line has the number and the line, after `cut` where the text's last line end is left off,
+// and after `times` and a count where the text is repeated.
 pub(crate) fn check_policy(header: &[u8], text: &[u8]) -> Verdict {
     let how = word(header, 1);
     if same(how, b"cut") {

@@ -24,7 +24,11 @@ ghost use Rattle.parts.specs.Parts.{savedAt, withSaved, loadedFrom, stor
 
 pub fn fault(memory: &mut [u8], from: usize, f: Fault)
     requires { ⌜ from + saveSize ≤ length (now memory) ⌝ }
-    ensures { λ _. ⌜ now (memory .exit) ≡ withSaved (now (memory .entry)) from (faults (savedAt (now (memory .entry)) from) f) ⌝ }
+    ensures { λ _.
+        ⌜
+        now (memory .exit)
+        ≡ withSaved (now (memory .entry)) from (faults (savedAt (now (memory .entry)) from) f)
+        ⌝ }
 {
     let to = from + SAVE_SIZE;
     savearea::fault(&mut memory[from..to], f);
@@ -64,7 +68,11 @@ pub fn takes_interrupt(memory: &[u8], from: usize) -> bool
 
 pub fn interrupt(memory: &mut [u8], from: usize)
     requires { ⌜ (from + saveSize ≤ length (now memory)) × (0 < due (savedAt (now memory) from)) ⌝ }
-    ensures { λ _. ⌜ now (memory .exit) ≡ withSaved (now (memory .entry)) from (interrupted (savedAt (now (memory .entry)) from)) ⌝ }
+    ensures { λ _.
+        ⌜
+        now (memory .exit)
+        ≡ withSaved (now (memory .entry)) from (interrupted (savedAt (now (memory .entry)) from))
+        ⌝ }
 {
     let to = from + SAVE_SIZE;
     savearea::interrupt(&mut memory[from..to]);
@@ -90,7 +98,12 @@ fn store_at(memory: &mut [u8], start: usize, size: usize, at: usize, b: u8)
 // Register a takes the byte at the offset that register b has.
 pub fn load_from(memory: &mut [u8], from: usize, start: usize, size: usize, a: u32, b: u32)
     requires { ⌜ (from + saveSize ≤ length (now memory)) × (start + size ≤ length (now memory)) ⌝ }
-    ensures { λ _. ⌜ now (memory .exit) ≡ withSaved (now (memory .entry)) from (loadedFrom (savedAt (now (memory .entry)) from) (part (now (memory .entry)) start size) size a b) ⌝ }
+    ensures { λ _.
+        ⌜
+        now (memory .exit)
+        ≡ withSaved (now (memory .entry)) from
+        (loadedFrom (savedAt (now (memory .entry)) from) (part (now (memory .entry)) start size) size a b)
+        ⌝ }
 {
     let at = get_register(memory, from, b) as usize;
     if size <= at {

@@ -1,5 +1,5 @@
--- 01, "Memory and policy": R(p) and W(p). They are source document 004's subject-to-resource function, by mode of flow: read and
--- write are separate flows, and a write right gives no read right.
+-- 01, "Memory and policy": R(p) and W(p). They are source document 004's subject-to-resource function, by mode of flow:
+-- read and write are separate flows, and a write right gives no read right.
 use Prim.Native.Nat.{ℕ}
 use mathlib.Core.Bool.{Bool, _||_}
 use lib.Dec.{eqb}

@@ -1,5 +1,5 @@
--- 01, "Separation over whole runs": "A chain from s to t is one or more flow lines: the first goes out from s, each further one from
--- the segment that the line before went into, and the last goes into t."
+-- 01, "Separation over whole runs": "A chain from s to t is one or more flow lines: the first goes out from s, each
+-- further one from the segment that the line before went into, and the last goes into t."
 use Prim.Native.Nat.{ℕ, _<_}
 use mathlib.Core.Path.{_≡_}
 use mathlib.Core.Bool.{true}

@@ -1,4 +1,5 @@
--- What a sound record gives whoever rests on it: the laws of rules 4 to 8, over its view. Nothing else of the reader is known above.
+-- What a sound record gives whoever rests on it: the laws of rules 4 to 8, over its view. Nothing else of the reader is
+-- known above.
 use Prim.Native.Nat.{ℕ, _+_, _≤_, _<_}
 use mathlib.Core.Path.{_≡_}
 use mathlib.Core.Bool.{true, false}

@@ -14,6 +14,7 @@ pub mod Whole
 -- The record, and the reading of a text into it.
 pub mod Record
 pub mod Draft
+pub mod First
 pub mod Refusals
 pub mod Read
 -- Which records are sound, the test that decides it, and what it gives.

@@ -42,7 +42,8 @@ idSkips v (Slot partition ticks) = false
 abbrev pub ascends : Key → ℕ → ℕ → Bool
 ascends before first second = ltb (before .first) first || eqb (before .first) first && ltb (before .second) second
 
--- "Right pairs (partition, segment) and flow pairs (from, to) strictly ascend": the line before is of the same kind, and not below.
+-- "Right pairs (partition, segment) and flow pairs (from, to) strictly ascend": the line before is of the same kind,
+-- and not below.
 abbrev pub pairFalls : Key → Line → Bool
 pairFalls before Bad = false
 pairFalls before (Segment id base size) = false

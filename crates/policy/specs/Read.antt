@@ -11,7 +11,9 @@ use Rattle.policy.specs.declared.record.Policy.{Policy}
 use Rattle.policy.specs.declared.record.Draft.{Draft}
 use Rattle.policy.specs.declared.record.Reading.{Reading}
 use Rattle.policy.specs.declared.record.Refusal.{Refusal}
-use Rattle.policy.specs.declared.record.Refusal.the-variants.{Accepted, TooLong, Malformed, OutOfOrder, OutOfRange, Clash, Incomplete, CodeUnreadable, FlowMissing}
+use Rattle.policy.specs.declared.record.Refusal.the-variants.{Accepted, TooLong, Malformed, OutOfOrder}
+use Rattle.policy.specs.declared.record.Refusal.the-variants.{OutOfRange, Clash, Incomplete, CodeUnreadable}
+use Rattle.policy.specs.declared.record.Refusal.the-variants.{FlowMissing}
 use Rattle.policy.specs.Limits.{Limits}
 use Rattle.policy.specs.View.{View}
 use Rattle.policy.specs.Order.{outOfOrder}
@@ -20,7 +22,8 @@ use Rattle.policy.specs.Clash.{clashes}
 use Rattle.policy.specs.Whole.{incomplete, codeUnreadable, flowMissing}
 use Rattle.policy.specs.Record.{zeros, viewOf}
 use Rattle.policy.specs.Draft.{begun, after}
-use Rattle.policy.specs.Refusals.{Rule, firstOf, isAccepted}
+use Rattle.policy.specs.First.{Rule, firstOf}
+use Rattle.policy.specs.Refusals.{isAccepted}
 
 -- 1: "over 16,384 bytes"
 abbrev pub tooLong : Limits → List ℕ → Bool
@@ -35,23 +38,24 @@ isBad (Right partition segment mode) = false
 isBad (Flow from to) = false
 isBad (Slot partition ticks) = false
 
--- "the first bad line, counted from 1, and within it in this order": 2, 3, 4, 5, for the n-th line after those in the draft
+-- "the first bad line, counted from 1, and within it in this order": 2, 3, 4, 5, for the n-th line after those in the
+-- draft
 unfoldable pub lineRefusal : Limits → ℕ → Draft → Line → Refusal
 lineRefusal limits n d line =
-    firstOf
-    (record { applies = isBad line; refusal = Malformed n }
-    ∷ record { applies = outOfOrder (d .before) (viewOf (d .policy)) line; refusal = OutOfOrder n }
-    ∷ record { applies = outOfRange limits (viewOf (d .policy)) line; refusal = OutOfRange n }
-    ∷ record { applies = clashes (viewOf (d .policy)) line; refusal = Clash n }
+    firstOf Accepted
+    (record { applies = isBad line; answer = Malformed n }
+    ∷ record { applies = outOfOrder (d .before) (viewOf (d .policy)) line; answer = OutOfOrder n }
+    ∷ record { applies = outOfRange limits (viewOf (d .policy)) line; answer = OutOfRange n }
+    ∷ record { applies = clashes (viewOf (d .policy)) line; answer = Clash n }
     ∷ [])
 
 -- "Then, with line 0: 6 .. 7 .. 8"
 unfoldable pub wholeRefusal : View → Refusal
 wholeRefusal v =
-    firstOf
-    (record { applies = incomplete v; refusal = Incomplete }
-    ∷ record { applies = codeUnreadable v; refusal = CodeUnreadable }
-    ∷ record { applies = flowMissing v; refusal = FlowMissing }
+    firstOf Accepted
+    (record { applies = incomplete v; answer = Incomplete }
+    ∷ record { applies = codeUnreadable v; answer = CodeUnreadable }
+    ∷ record { applies = flowMissing v; answer = FlowMissing }
     ∷ [])
 
 -- "A refusal returns number, line and the record of zeros. An accepted text returns number 0, line 0 and its record."

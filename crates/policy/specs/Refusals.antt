@@ -1,11 +1,13 @@
 -- 01's number and line for each answer of reading a text.
 use Prim.Native.Nat.{ℕ}
-use mathlib.Core.Bool.{Bool, true, false, cond}
-use mathlib.Core.List.{List, [], _∷_}
+use mathlib.Core.Bool.{Bool, true, false}
 use Rattle.policy.specs.declared.record.Refusal.{Refusal}
-use Rattle.policy.specs.declared.record.Refusal.the-variants.{Accepted, TooLong, Malformed, OutOfOrder, OutOfRange, Clash, Incomplete, CodeUnreadable, FlowMissing}
+use Rattle.policy.specs.declared.record.Refusal.the-variants.{Accepted, TooLong, Malformed, OutOfOrder}
+use Rattle.policy.specs.declared.record.Refusal.the-variants.{OutOfRange, Clash, Incomplete, CodeUnreadable}
+use Rattle.policy.specs.declared.record.Refusal.the-variants.{FlowMissing}
 
--- "An accepted text returns number 0, line 0"; "1: over 16,384 bytes, line 0"; 2 to 5 for a line; "Then, with line 0: 6 .. 7 .. 8".
+-- "An accepted text returns number 0, line 0"; "1: over 16,384 bytes, line 0"; 2 to 5 for a line; "Then, with line 0: 6
+-- .. 7 .. 8".
 abbrev pub numberOf : Refusal → ℕ
 numberOf Accepted = 0
 numberOf TooLong = 1
@@ -38,13 +40,3 @@ isAccepted (Clash line) = false
 isAccepted Incomplete = false
 isAccepted CodeUnreadable = false
 isAccepted FlowMissing = false
-
--- A refusal, with the test whether it applies.
-pub record Rule : Type 0 where
-  pub applies : Bool
-  pub refusal : Refusal
-
--- The first of the rules that applies.
-abbrev pub firstOf : List Rule → Refusal
-firstOf [] = Accepted
-firstOf (r ∷ rs) = cond (r .applies) (r .refusal) (firstOf rs)

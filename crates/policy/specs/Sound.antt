@@ -23,9 +23,9 @@ pub record Sound (policy : Policy) : Type 0 where
   pub text : List ℕ
   pub gives : readOf single text ≡ record { refusal = Accepted; policy = policy }
 
--- The test that decides it: each entry stands where a line that rules 4 and 5 let pass, after those before it, would put
--- it, the unused entries are 0, and the whole passes 6, 7 and 8. That the two are the same is proved: `accepted` here,
--- and `printed` in the crate printer.
+-- The test that decides it: each entry stands where a line that rules 4 and 5 let pass, after those before it, would
+-- put it, the unused entries are 0, and the whole passes 6, 7 and 8. That the two are the same is proved: `accepted`
+-- here, and `printed` in the crate printer.
 
 -- The policy with other counts.
 abbrev pub withCounts : View → ℕ → ℕ → ℕ → View

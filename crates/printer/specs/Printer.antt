@@ -92,8 +92,8 @@ linesOfRecord p = segmentLines p ++ partitionLines p ++ rightLines p ++ flowLine
 unfoldable pub textOf : Policy → List ℕ
 textOf p = textOfLines (linesOfRecord p)
 
--- "Counted by the widest line of each kind": a line for each segment, partition, pair of partition and segment, ordered pair
--- of two segments, and slot.
+-- "Counted by the widest line of each kind": a line for each segment, partition, pair of partition and segment, ordered
+-- pair of two segments, and slot.
 unfoldable pub textBound : Limits → ℕ
 textBound limits =
     let segment = limits .segments - 1 in

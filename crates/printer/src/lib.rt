@@ -1,1 +1,2 @@
-// Each record that the test of soundness lets pass has a text: the printer, and the theorem that reading gives the record back. No code that runs.
+// Each record that the test of soundness lets pass has a text: the printer, and the theorem that reading gives the
+// record back. No code that runs.

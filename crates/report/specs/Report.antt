@@ -22,14 +22,14 @@ numbers [] = lineEnd ∷ []
 numbers (n ∷ ns) = tab ∷ digits n ++ numbers ns
 
 -- "the masks of partitions p with the segment in R(p) and in W(p), bit p worth 2 to the power p"
-unfoldable pub maskOf : View → (ℕ → Bool) → ℕ
-maskOf v has = sumBelow (v .partitions) (λ p. cond (has p) (2 ^ p) 0)
+unfoldable pub partitionMask : View → (ℕ → Bool) → ℕ
+partitionMask v has = sumBelow (v .partitions) (λ p. cond (has p) (2 ^ p) 0)
 
 abbrev pub readMask : View → ℕ → ℕ
-readMask v s = maskOf v (λ p. readable v p s)
+readMask v s = partitionMask v (λ p. readable v p s)
 
 abbrev pub writeMask : View → ℕ → ℕ
-writeMask v s = maskOf v (λ p. writable v p s)
+writeMask v s = partitionMask v (λ p. writable v p s)
 
 -- "Then id, and the masks"
 unfoldable pub segmentRow : View → ℕ → List ℕ

@@ -50,7 +50,10 @@ fn put_number(out: &mut [u8; 640], at: usize, n: u32) -> usize
 // A row: its word, its numbers, each after a tab, and the line's end.
 pub(crate) fn put_row(out: &mut [u8; 640], at: usize, word: &[u8], row: &[u32]) -> usize
     requires { ⌜ Short (now row) × (at + length (now word) + length (numbers (now row)) ≤ 640) ⌝ }
-    ensures { λ r. ⌜ Written (now (out .entry)) at (now (word .entry) ++ numbers (now (row .entry))) (now (out .exit)) r ⌝ }
+    ensures { λ r.
+        ⌜
+        Written (now (out .entry)) at (now (word .entry) ++ numbers (now (row .entry))) (now (out .exit)) r
+        ⌝ }
 {
     let mut next = put_word(out, at, word);
     let mut i = 0;

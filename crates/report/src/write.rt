@@ -33,7 +33,10 @@ fn put_accepted(policy: Policy, out: &mut [u8; 640]) -> usize
 // At most 19 bytes a row.
 fn put_segments(policy: Policy, out: &mut [u8; 640], at: usize) -> usize
     requires { ⌜ Countable (viewOf policy) × (at ≤ 23) ⌝ }
-    ensures { λ r. ⌜ Written (now (out .entry)) at (segmentRows (viewOf policy) (policy .segments)) (now (out .exit)) r ⌝ }
+    ensures { λ r.
+        ⌜
+        Written (now (out .entry)) at (segmentRows (viewOf policy) (policy .segments)) (now (out .exit)) r
+        ⌝ }
 {
     let count = policy.segments;
     let mut next = at;

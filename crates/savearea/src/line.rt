@@ -21,8 +21,8 @@ ghost use lib.Bits.{bitAnd};
 ghost use Rattle.machine.specs.Save.{due};
 ghost use Rattle.machine.specs.Local.{takesInterrupt, lowest, interrupted};
 
-// With a line that is pended and enabled, outside a handler, ready or waiting. The lines come first: most ticks have none,
-// and are asked no more; those in a handler are not asked for the state.
+// With a line that is pended and enabled, outside a handler, ready or waiting. The lines come first: most ticks have
+// none, and are asked no more; those in a handler are not asked for the state.
 pub fn takes_interrupt(s: &[u8]) -> bool
     ensures { λ r. ⌜ r ≡ takesInterrupt (now (s .entry)) ⌝ }
 {

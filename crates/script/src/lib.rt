@@ -1,5 +1,5 @@
-// What the test programs share: a file as one slice, its lines and their words, numbers and bytes in a line, and what is
-// written. A place past the end is taken for the end, so every function takes any text and any place.
+// What the test programs share: a file as one slice, its lines and their words, numbers and bytes in a line, and what
+// is written. A place past the end is taken for the end, so every function takes any text and any place.
 mod numbers;
 mod output;
 mod pieces;

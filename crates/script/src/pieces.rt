@@ -3,7 +3,8 @@ ghost use Prim.Native.Nat.{_≤_};
 ghost use lib.ListN.{length};
 ghost use Rattle.io.specs.Counts.{Counts};
 
-// The first place at or after `from` where a byte b stands, or another where `is` is false; the end where there is none.
+// The first place at or after `from` where a byte b stands, or another byte where `is` is false; the end where there is
+// none.
 pub fn find(s: &[u8], from: usize, b: u8, is: bool) -> usize
     ensures { λ r. ⌜ r ≤ length (now (s .entry)) ⌝ }
 {

@@ -1,1 +1,2 @@
+-- That an answer decides soundness.
 pub mod Decides

@@ -19,9 +19,9 @@ given Malformed more = Bad
 given (Value n) more = more n
 
 -- Goes on with the next field read so, and with the fields after it.
-abbrev pub next : (List ℕ → Number) → List (List ℕ) → (ℕ → List (List ℕ) → Line) → Line
-next read [] more = Bad
-next read (f ∷ fs) more = given (read f) (λ n. more n fs)
+abbrev pub nextField : (List ℕ → Number) → List (List ℕ) → (ℕ → List (List ℕ) → Line) → Line
+nextField read [] more = Bad
+nextField read (f ∷ fs) more = given (read f) (λ n. more n fs)
 
 -- Nothing may stand after the last field.
 abbrev pub last : List (List ℕ) → Line → Line
@@ -31,26 +31,28 @@ last (f ∷ fs) line = Bad
 -- "segment: id, base, length"
 unfoldable pub segmentLine : List (List ℕ) → Line
 segmentLine fs =
-    next number fs λ id fs. next number fs λ base fs. next number fs λ size fs. last fs (Segment id base size)
+    nextField number fs λ id fs. nextField number fs λ base fs. nextField number fs λ size fs.
+    last fs (Segment id base size)
 
 -- "partition: id, code segment, save segment"
 unfoldable pub partitionLine : List (List ℕ) → Line
 partitionLine fs =
-    next number fs λ id fs. next number fs λ code fs. next number fs λ save fs. last fs (Partition id code save)
+    nextField number fs λ id fs. nextField number fs λ code fs. nextField number fs λ save fs.
+    last fs (Partition id code save)
 
 -- "right: partition, segment, then r, w or rw"
 unfoldable pub rightLine : List (List ℕ) → Line
 rightLine fs =
-    next number fs λ partition fs. next number fs λ segment fs. next letters fs λ mode fs.
+    nextField number fs λ partition fs. nextField number fs λ segment fs. nextField letters fs λ mode fs.
     last fs (Right partition segment mode)
 
 -- "flow: from, to"
 unfoldable pub flowLine : List (List ℕ) → Line
-flowLine fs = next number fs λ from fs. next number fs λ to fs. last fs (Flow from to)
+flowLine fs = nextField number fs λ from fs. nextField number fs λ to fs. last fs (Flow from to)
 
 -- "slot: partition, ticks (1 to 1,000)"
 unfoldable pub slotLine : List (List ℕ) → Line
-slotLine fs = next number fs λ partition fs. next number fs λ ticks fs. last fs (Slot partition ticks)
+slotLine fs = nextField number fs λ partition fs. nextField number fs λ ticks fs. last fs (Slot partition ticks)
 
 -- "The record words are segment, partition, right, flow and slot"
 unfoldable pub wordOf : List ℕ → Kind

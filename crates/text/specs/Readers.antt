@@ -1,5 +1,5 @@
--- 01: "The reader's place, a byte and a line number, moves forward past each field." What each reader finds at the place
--- that it is lent, and where it leaves the place. A field is read in a line, the text up to the line's end.
+-- 01: "The reader's place, a byte and a line number, moves forward past each field." What each reader finds at the
+-- place that it is lent, and where it leaves the place. A field is read in a line, the text up to the line's end.
 use Prim.Native.Nat.{ℕ, _+_}
 use mathlib.Core.Bool.{Bool, true, false, cond}
 use mathlib.Core.List.{List}

@@ -10,8 +10,8 @@ pub enum Number {
     Malformed,
 }
 
-// What the next field of a line says, with the place after it; Missing also where it says nothing. In definitions alone:
-// the readers answer with a NumberRead.
+// What the next field of a line says, with the place after it; Missing also where it says nothing. In definitions
+// alone: the readers answer with a NumberRead.
 pub enum Field {
     Found(u32, Cursor),
     Missing,

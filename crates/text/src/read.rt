@@ -28,8 +28,8 @@ pub struct EndRead {
     pub next: Cursor,
 }
 
-// What stands in a line, by the readers' order: every line has the record word and two numbers, then letters, a number or
-// nothing, and the line end. `next` is where the last reader leaves the place.
+// What stands in a line, by the readers' order: every line has the record word and two numbers, then letters, a number
+// or nothing, and the line end. `next` is where the last reader leaves the place.
 pub struct FieldsRead {
     pub kind: Kind,
     pub first: Number,

@@ -41,7 +41,12 @@ fn obey<'a>(
 )
     requires { ⌜ from + saveSize ≤ length (now memory) ⌝ }
     requires { ⌜ Inside (now base) (now size) segments row (length (now memory)) ⌝ }
-    ensures { λ _. ⌜ now (memory .exit) ≡ obeyed (seatOf (now (base .entry)) (now (size .entry)) (now (rights .entry)) segments row) from (now (memory .entry)) d ⌝ }
+    ensures { λ _.
+        ⌜
+        now (memory .exit)
+        ≡ obeyed (seatOf (now (base .entry)) (now (size .entry)) (now (rights .entry)) segments row)
+        from (now (memory .entry)) d
+        ⌝ }
 {
     let Decoded::Runs(i) = d else {
         fault(memory, from, Fault::BadInstruction);
@@ -68,7 +73,12 @@ fn step<'a>(
     save: u8,
 )
     requires { ⌜ Seated (now base) (now size) segments row code save (length (now memory)) ⌝ }
-    ensures { λ _. ⌜ now (memory .exit) ≡ stepped (seatOf (now (base .entry)) (now (size .entry)) (now (rights .entry)) segments row) code save (now (memory .entry)) ⌝ }
+    ensures { λ _.
+        ⌜
+        now (memory .exit)
+        ≡ stepped (seatOf (now (base .entry)) (now (size .entry)) (now (rights .entry)) segments row)
+        code save (now (memory .entry))
+        ⌝ }
 {
     let from = entry(base, save as u32);
     let start = entry(base, code as u32);
@@ -97,7 +107,9 @@ pub fn tick<'a>(
     requires { ⌜ Seated (now base) (now size) segments row code save (length (now memory)) ⌝ }
     ensures { λ r.
         ⌜
-        (now (memory .exit) ≡ tickOf (seatOf (now (base .entry)) (now (size .entry)) (now (rights .entry)) segments row) code save (now (memory .entry)))
+        (now (memory .exit)
+        ≡ tickOf (seatOf (now (base .entry)) (now (size .entry)) (now (rights .entry)) segments row) code save
+        (now (memory .entry)))
         × (r ≡ isAble (savedAt (now (memory .entry)) (getD (now (base .entry)) save 0)))
         ⌝ }
 {

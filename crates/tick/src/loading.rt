@@ -26,7 +26,12 @@ pub(crate) fn load<'a>(
 )
     requires { ⌜ from + saveSize ≤ length (now memory) ⌝ }
     requires { ⌜ Inside (now base) (now size) segments row (length (now memory)) ⌝ }
-    ensures { λ _. ⌜ now (memory .exit) ≡ loaded (seatOf (now (base .entry)) (now (size .entry)) (now (rights .entry)) segments row) from (now (memory .entry)) a b c ⌝ }
+    ensures { λ _.
+        ⌜
+        now (memory .exit)
+        ≡ loaded (seatOf (now (base .entry)) (now (size .entry)) (now (rights .entry)) segments row)
+        from (now (memory .entry)) a b c
+        ⌝ }
 {
     if may(rights, segments, row, READ, c) {
         load_from(memory, from, entry(base, c), entry(size, c), a, b);

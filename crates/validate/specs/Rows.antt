@@ -6,7 +6,8 @@ use lib.Dec.{eqb, leb}
 use lib.ListN.{length, getD}
 use Rattle.policy.specs.Below.{eachBelow}
 
--- Whether a line may give the byte on segment s: it says nothing, or it is at most the most, on a segment that is there and not barred.
+-- Whether a line may give the byte on segment s: it says nothing, or it is at most the most, on a segment that is there
+-- and not barred.
 unfoldable pub byteGood : ℕ → ℕ → (ℕ → Bool) → ℕ → ℕ → Bool
 byteGood most segments barred s byte = eqb byte 0 || leb byte most && (not (leb segments s) && not (barred s))
 

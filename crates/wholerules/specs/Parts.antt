@@ -1,4 +1,5 @@
--- The view of a record of which only what these rules ask is known: the counts, the partitions' segments, the rights, the flow lines.
+-- The view of a record of which only what these rules ask is known: the counts, the partitions' segments, the rights,
+-- the flow lines.
 use Prim.Native.Nat.{ℕ}
 use mathlib.Core.List.{List, []}
 use Rattle.policy.specs.Record.{viewOf}

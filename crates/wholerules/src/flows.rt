@@ -8,10 +8,27 @@ ghost use Rattle.policy.specs.Below.{someBelow};
 ghost use Rattle.policy.specs.Whole.{flowMissing};
 ghost use Rattle.wholerules.specs.Masks.{maskLacks};
 ghost use Rattle.wholerules.specs.Parts.{partsOf, reachOf};
-use crate::access::pair_at;
+use crate::access::may_write;
 use crate::masks::read_masks;
 use crate::masks::sources_mask;
-use bytes::byte_at;
+
+// Whether p may write t, and reads a segment that is not among the sources. A branch: most pairs stop at it.
+fn partition_lacks<'a>(
+    save: &'a [u8],
+    rights: &'a [u8],
+    reads: u32,
+    sources: u32,
+    t: u8,
+    p: u8,
+) -> bool
+    ensures { λ r.
+        ⌜ r ≡ maskLacks (reachOf (now (save .entry)) (now (rights .entry)) []) reads sources t p ⌝ }
+{
+    if may_write(save, rights, p, t) {
+        return (reads & sources) != reads;
+    }
+    false
+}
 
 // Whether a partition that may write t reads a segment that is not among the sources.
 fn target_lacks<'a>(
@@ -31,10 +48,7 @@ fn target_lacks<'a>(
 {
     let mut p = 0;
     while p < partitions {
-        let reads = masks[p as usize];
-        let own = byte_at(save, p as usize);
-        let mode = pair_at(rights, p, t);
-        if ((t == own) | ((mode == 2) | (mode == 3))) & ((reads & sources) != reads) {
+        if partition_lacks(save, rights, masks[p as usize], sources, t, p) {
             return true;
         }
         p += 1;

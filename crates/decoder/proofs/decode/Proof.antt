@@ -6,17 +6,14 @@ use borrow.Author.Needs.{needs}
 use Rattle.decoder.proofs.decode.Statement.{statement}
 use Rattle.decoder.proofs.decode.Tie as tie
 
-mul-n : tie.Need-mul-n
-mul-n c = search needs
-
-add-n : tie.Need-add-n
-add-n c = search needs
-
-cast-n : tie.Need-cast-n
-cast-n c = search needs
-
 checked-requires : tie.Need-checked-requires
 checked-requires c κs = search needs
+
+mul-t10 : tie.Need-mul-t10
+mul-t10 c = search needs
+
+add-t11 : tie.Need-add-t11
+add-t11 c = search needs
 
 checked-requires-2 : tie.Need-checked-requires-2
 checked-requires-2 c κs = search needs
@@ -42,11 +39,23 @@ checked-requires-8 c κs = search needs
 checked-requires-9 : tie.Need-checked-requires-9
 checked-requires-9 c κs = search needs
 
+mul-t20 : tie.Need-mul-t20
+mul-t20 c = search needs
+
+add-t21 : tie.Need-add-t21
+add-t21 c = search needs
+
 checked-requires-10 : tie.Need-checked-requires-10
 checked-requires-10 c κs = search needs
 
 checked-requires-11 : tie.Need-checked-requires-11
 checked-requires-11 c κs = search needs
+
+mul-t24 : tie.Need-mul-t24
+mul-t24 c = search needs
+
+add-t25 : tie.Need-add-t25
+add-t25 c = search needs
 
 checked-requires-12 : tie.Need-checked-requires-12
 checked-requires-12 c κs = search needs
@@ -115,10 +124,9 @@ pub decode-spec : {M : Type 1} → statement M
 decode-spec =
     tie.close
     (tie.spec
-    mul-n
-    add-n
-    cast-n
     checked-requires
+    mul-t10
+    add-t11
     checked-requires-2
     checked-requires-3
     checked-requires-4
@@ -127,8 +135,12 @@ decode-spec =
     checked-requires-7
     checked-requires-8
     checked-requires-9
+    mul-t20
+    add-t21
     checked-requires-10
     checked-requires-11
+    mul-t24
+    add-t25
     checked-requires-12
     checked-requires-13
     returns

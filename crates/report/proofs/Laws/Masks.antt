@@ -12,7 +12,7 @@ use Rattle.policy.specs.declared.record.Policy.{Policy}
 use Rattle.policy.specs.Below.{sumBelow}
 use Rattle.policy.specs.Record.{viewOf, pairAt, givesRead, givesWrite}
 use Rattle.schedule.proofs.Laws.Sums.{sum-more}
-use Rattle.report.specs.Report.{maskOf, readMask, writeMask}
+use Rattle.report.specs.Report.{partitionMask, readMask, writeMask}
 use Rattle.report.specs.Masks.{maskIn}
 
 cond-most : (b : Bool) (n : ℕ) → cond b n 0 ≤ n
@@ -42,9 +42,9 @@ mask-small gives save rights n s h = omega (arith, mask-under gives save rights 
 
 -- The masks of the report are those of the record's arrays.
 pub reads-same : (p : Policy) (s : ℕ) → maskIn givesRead (p .save) (p .rights) (p .partitions) s ≡ readMask (viewOf p) s
-unfolding maskIn maskOf
+unfolding maskIn partitionMask
 reads-same p s = refl
 
 pub writes-same : (p : Policy) (s : ℕ) → maskIn givesWrite (p .save) (p .rights) (p .partitions) s ≡ writeMask (viewOf p) s
-unfolding maskIn maskOf
+unfolding maskIn partitionMask
 writes-same p s = refl

@@ -1,10 +1,11 @@
 -- How long the rows are, by the widths of their numbers, and how the report is made of them.
 use Prim.Native.Nat.{ℕ, _+_, _<_, _≤_}
 use mathlib.Core.Path.{_≡_, refl, _∙_}
-use mathlib.Core.Bool.{true, false}
 use mathlib.Core.List.{List, _++_}
 use native.Mathlib.Numerals.{add-one}
 use native.Mathlib.Omega.{arith}
+use borrow.Author.Tests.{eq-eqb, ne-eqb}
+use lib.Dec.{eqb}
 use lib.ListN.{length, length-append}
 use lib.Seq.{sets}
 use Rattle.policy.specs.declared.record.Policy.{Policy}
@@ -71,40 +72,29 @@ number-small Incomplete = omega arith
 number-small CodeUnreadable = omega arith
 number-small FlowMissing = omega arith
 
-pub number-none : (r : Refusal) → numberOf r ≡ 0 → isAccepted r ≡ true
-number-none Accepted e = refl
-number-none TooLong e = absurd (omega arith)
-number-none (Malformed line) e = absurd (omega arith)
-number-none (OutOfOrder line) e = absurd (omega arith)
-number-none (OutOfRange line) e = absurd (omega arith)
-number-none (Clash line) e = absurd (omega arith)
-number-none Incomplete e = absurd (omega arith)
-number-none CodeUnreadable e = absurd (omega arith)
-number-none FlowMissing e = absurd (omega arith)
-
-pub number-some : (r : Refusal) → (numberOf r ≡ 0 → ⊥) → isAccepted r ≡ false
-number-some Accepted e = absurd (e refl)
-number-some TooLong e = refl
-number-some (Malformed line) e = refl
-number-some (OutOfOrder line) e = refl
-number-some (OutOfRange line) e = refl
-number-some (Clash line) e = refl
-number-some Incomplete e = refl
-number-some CodeUnreadable e = refl
-number-some FlowMissing e = refl
+accepted-zero : (r : Refusal) → isAccepted r ≡ eqb (numberOf r) 0
+accepted-zero Accepted = refl
+accepted-zero TooLong = refl
+accepted-zero (Malformed line) = refl
+accepted-zero (OutOfOrder line) = refl
+accepted-zero (OutOfRange line) = refl
+accepted-zero (Clash line) = refl
+accepted-zero Incomplete = refl
+accepted-zero CodeUnreadable = refl
+accepted-zero FlowMissing = refl
 
 pub report-accepted : (reading : Reading) → numberOf (reading .refusal) ≡ 0 →
     reportOfReading reading
     ≡ acceptedRow (viewOf (reading .policy)) ++ segmentRows (viewOf (reading .policy)) (reading .policy .segments)
 unfolding reportOfReading
-report-accepted reading e = rw (number-none (reading .refusal) e)
+report-accepted reading e = rw (accepted-zero (reading .refusal), eq-eqb _ _ e)
 
 pub report-refused : (reading : Reading) (number line : ℕ) → (number ≡ 0 → ⊥) →
     number ≡ numberOf (reading .refusal) → line ≡ lineNumberOf (reading .refusal) →
     reportOfReading reading ≡ refusedWith number line
 unfolding reportOfReading refusedRow
 report-refused reading number line h a b =
-    rw (number-some (reading .refusal) (λ e. h (a ∙ e)), ← a, ← b)
+    rw (accepted-zero (reading .refusal), ne-eqb (numberOf (reading .refusal)) 0 (λ e. h (a ∙ e)), ← a, ← b)
 
 pub report-written : {l m b : List ℕ} {r : ℕ} → Written l 0 b m r → (r ≡ length b) × (m ≡ sets l 0 b)
 report-written {l} {m} {b} {r} w = (omega arith, w .text)

@@ -8,7 +8,7 @@ use borrow.Author.Tests.{lt-ltb, le-ltb}
 use lib.ListN.{length, drop}
 use Rattle.text.proofs.Laws.Cut.{cut-at}
 use Rattle.text.specs.Cut.{fieldsOf, tab}
-use Rattle.text.specs.Lines.{given, next, last}
+use Rattle.text.specs.Lines.{given, nextField, last}
 use Rattle.text.specs.Places.{pieceAt, endAt, fieldsAfter, foundAt, fieldAfter}
 use Rattle.text.specs.declared.line.Cursor.{Cursor}
 use Rattle.text.specs.declared.line.Field.{Field}
@@ -55,11 +55,11 @@ module _ (line : List ℕ) (more : ℕ → List (List ℕ) → Line) where
 
   next-after :
       (read : List ℕ → Number) (c : Cursor)
-      → next read (fieldsAfter line (c .at)) more ≡ onward (fieldAfter read line c)
+      → nextField read (fieldsAfter line (c .at)) more ≡ onward (fieldAfter read line c)
   unfolding fieldAfter
   next-after read c = go (decLt (c .at) (length line))
     where
-      go : Dec (c .at < length line) → next read (fieldsAfter line (c .at)) more ≡ onward (fieldAfter read line c)
+      go : Dec (c .at < length line) → nextField read (fieldsAfter line (c .at)) more ≡ onward (fieldAfter read line c)
       go (yes h) =
           let end = endAt tab line (c .at + 1) in
           rw (fields-more line (c .at) h, lt-ltb (c .at) (length line) h)
@@ -69,10 +69,10 @@ module _ (line : List ℕ) (more : ℕ → List (List ℕ) → Line) where
   module _ (read : List ℕ → Number) (c : Cursor) {r : Field} (e : r ≡ fieldAfter read line c) where
     pub next-found :
         {n : ℕ} {c′ : Cursor} → r ≡ Found n c′
-        → next read (fieldsAfter line (c .at)) more ≡ more n (fieldsAfter line (c′ .at))
+        → nextField read (fieldsAfter line (c .at)) more ≡ more n (fieldsAfter line (c′ .at))
     next-found g = next-after read c ∙ ap onward (sym e ∙ g)
 
-    pub next-missing : r ≡ Missing → next read (fieldsAfter line (c .at)) more ≡ Bad
+    pub next-missing : r ≡ Missing → nextField read (fieldsAfter line (c .at)) more ≡ Bad
     next-missing g = next-after read c ∙ ap onward (sym e ∙ g)
 
 module _ (read : List ℕ → Number) (line : List ℕ) (c : Cursor) where

@@ -7,7 +7,7 @@ use native.Mathlib.Omega.{arith}
 use Rattle.text.specs.Bytes.{bytesOf, same}
 use Rattle.text.specs.Cut.{cut, fieldsOf, lineEnd}
 use Rattle.text.specs.Number.{number, letters}
-use Rattle.text.specs.Lines.{given, next, last, segmentLine, partitionLine, rightLine, flowLine, slotLine, wordOf, lineOfKind, lineOf, linesOfPieces, linesOf}
+use Rattle.text.specs.Lines.{given, nextField, last, segmentLine, partitionLine, rightLine, flowLine, slotLine, wordOf, lineOfKind, lineOf, linesOfPieces, linesOf}
 use Rattle.text.specs.declared.line.Number.{Number}
 use Rattle.text.specs.declared.line.Number.the-variants.{Value, Malformed}
 use Rattle.text.specs.declared.line.Kind.{Kind}
@@ -40,7 +40,7 @@ letters-few f n = go (same f (bytesOf "r")) (same f (bytesOf "w")) (same f (byte
 -- the next field, whatever it says
 module _ (read : List ℕ → Number) (few : ℕ → Type 0) (is : (f : List ℕ) (n : ℕ) → read f ≡ Value n → few n) where
   next-lettered : (fs : List (List ℕ)) (more : ℕ → List (List ℕ) → Line) →
-      ((n : ℕ) → few n → (fs : List (List ℕ)) → Lettered (more n fs)) → Lettered (next read fs more)
+      ((n : ℕ) → few n → (fs : List (List ℕ)) → Lettered (more n fs)) → Lettered (nextField read fs more)
   next-lettered [] more h = tt
   next-lettered (f ∷ fs) more h = go (read f) refl
     where
@@ -53,7 +53,7 @@ last-lettered [] line h = h
 last-lettered (f ∷ fs) line h = tt
 
 number-lettered : (fs : List (List ℕ)) (more : ℕ → List (List ℕ) → Line) →
-    ((n : ℕ) (fs : List (List ℕ)) → Lettered (more n fs)) → Lettered (next number fs more)
+    ((n : ℕ) (fs : List (List ℕ)) → Lettered (more n fs)) → Lettered (nextField number fs more)
 number-lettered fs more h = next-lettered number (λ n. Unit) (λ f n e. tt) fs more (λ n u fs. h n fs)
 
 module _ (fs : List (List ℕ)) where

@@ -15,7 +15,7 @@ use Rattle.text.specs.Readers.{takenFrom, numberRead, lettersRead, numbe
 use Rattle.text.specs.Said.{twoSay, threeSay, rightSays, restSays, numbersSay}
 use Rattle.text.specs.Bytes.{same}
 use Rattle.text.specs.Cut.{tab}
-use Rattle.text.specs.Lines.{given, next, last, segmentLine, partitionLine, rightLine, flowLine, slotLine, lineOfKind}
+use Rattle.text.specs.Lines.{given, nextField, last, segmentLine, partitionLine, rightLine, flowLine, slotLine, lineOfKind}
 use Rattle.text.specs.Number.{number, letters, isNumber, allDigits}
 use Rattle.text.specs.Places.{pieceAt, fieldsAfter, fieldAfter}
 use Rattle.text.specs.declared.line.Cursor.{Cursor}
@@ -73,16 +73,16 @@ module _ (line : List ℕ) (c : Cursor) where
 
 -- How a line goes on after its first two numbers.
 abbrev rest : Kind → ℕ → ℕ → List (List ℕ) → Line
-rest OfSegment a b fs = next number fs λ c fs. last fs (Segment a b c)
-rest OfPartition a b fs = next number fs λ c fs. last fs (Partition a b c)
-rest OfRight a b fs = next letters fs λ mode fs. last fs (Right a b mode)
+rest OfSegment a b fs = nextField number fs λ c fs. last fs (Segment a b c)
+rest OfPartition a b fs = nextField number fs λ c fs. last fs (Partition a b c)
+rest OfRight a b fs = nextField letters fs λ mode fs. last fs (Right a b mode)
 rest OfFlow a b fs = last fs (Flow a b)
 rest OfSlot a b fs = last fs (Slot a b)
 rest Unknown a b fs = Bad
 
 next-bad :
     (fs : List (List ℕ)) (more : ℕ → List (List ℕ) → Line) → ((n : ℕ) (fs : List (List ℕ)) → more n fs ≡ Bad)
-    → next number fs more ≡ Bad
+    → nextField number fs more ≡ Bad
 next-bad [] more h = refl
 next-bad (f ∷ fs) more h = go (number f)
   where
@@ -92,7 +92,7 @@ next-bad (f ∷ fs) more h = go (number f)
 
 by-rest :
     (kind : Kind) (fs : List (List ℕ))
-    → lineOfKind kind fs ≡ next number fs λ a fs. next number fs λ b fs. rest kind a b fs
+    → lineOfKind kind fs ≡ nextField number fs λ a fs. nextField number fs λ b fs. rest kind a b fs
 unfolding segmentLine partitionLine rightLine flowLine slotLine
 by-rest OfSegment fs = refl
 by-rest OfPartition fs = refl

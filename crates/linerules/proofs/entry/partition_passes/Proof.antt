@@ -1,4 +1,5 @@
 -- Neither rule applies to the line that would put the partition there.
+use mathlib.Core.Path.{sym, _∙_}
 use borrow.Author.Needs.{needs}
 use Rattle.policy.specs.Range.{outOfRange}
 use Rattle.policy.specs.Clash.{clashes}
@@ -21,12 +22,27 @@ cast-save c = search needs
 partition-outside-requires : tie.Need-partition-outside-requires
 partition-outside-requires c κs = search needs
 
+returns : tie.Need-returns
+unfolding goodPartition outOfRange clashes
+returns c =
+    rw (
+      ← c .before .before .before .byte-at .ensures,
+      ← c .before .before .byte-at2 .ensures,
+      sym (c .before .partition-outside .ensures) ∙ c .if1 .taken,
+    )
+
 partition-clashes-requires : tie.Need-partition-clashes-requires
 partition-clashes-requires c κs = search needs
 
-returns : tie.Need-returns
+returns-2 : tie.Need-returns-2
 unfolding goodPartition outOfRange clashes
-returns c = rw (c .partition-clashes .ensures, c .before .partition-outside .ensures, c .before .before .byte-at2 .ensures, c .before .before .before .byte-at .ensures)
+returns-2 c =
+    rw (
+      ← c .before .before .before .before .byte-at .ensures,
+      ← c .before .before .before .byte-at2 .ensures,
+      sym (c .before .before .partition-outside .ensures) ∙ c .before .if1 .left,
+      c .partition-clashes .ensures,
+    )
 
 pub partition-passes-spec : {M : Type 1} → statement M
 partition-passes-spec =
@@ -37,5 +53,6 @@ partition-passes-spec =
     byte-at-requires-2
     cast-save
     partition-outside-requires
+    returns
     partition-clashes-requires
-    returns)
+    returns-2)

@@ -1,4 +1,5 @@
 -- Neither rule applies to the line that would put the segment there.
+use mathlib.Core.Path.{sym, _∙_}
 use borrow.Author.Needs.{needs}
 use Rattle.policy.specs.Range.{outOfRange}
 use Rattle.policy.specs.Clash.{clashes}
@@ -21,12 +22,27 @@ cast-size c = search needs
 segment-outside-requires : tie.Need-segment-outside-requires
 segment-outside-requires c κs = search needs
 
+returns : tie.Need-returns
+unfolding goodSegment outOfRange clashes
+returns c =
+    rw (
+      ← c .before .before .before .half-at .ensures,
+      ← c .before .before .half-at2 .ensures,
+      sym (c .before .segment-outside .ensures) ∙ c .if1 .taken,
+    )
+
 overlaps-earlier-requires : tie.Need-overlaps-earlier-requires
 overlaps-earlier-requires c κs = search needs
 
-returns : tie.Need-returns
+returns-2 : tie.Need-returns-2
 unfolding goodSegment outOfRange clashes
-returns c = rw (c .overlaps-earlier .ensures, c .before .segment-outside .ensures, c .before .before .half-at2 .ensures, c .before .before .before .half-at .ensures)
+returns-2 c =
+    rw (
+      ← c .before .before .before .before .half-at .ensures,
+      ← c .before .before .before .half-at2 .ensures,
+      sym (c .before .before .segment-outside .ensures) ∙ c .before .if1 .left,
+      c .overlaps-earlier .ensures,
+    )
 
 pub segment-passes-spec : {M : Type 1} → statement M
 segment-passes-spec =
@@ -37,5 +53,6 @@ segment-passes-spec =
     half-at-requires-2
     cast-size
     segment-outside-requires
+    returns
     overlaps-earlier-requires
-    returns)
+    returns-2)
