@@ -2,11 +2,6 @@
 // runs: the crate above proves its code against these definitions.
 use machine::Place;
 
-// A Run of more ticks is refused, and a Pend of a line above the last.
-pub const MOST_TICKS_OF_RUN: u32 = 10000;
-
-pub const LAST_LINE: u32 = 7;
-
 // What an operation answers: that it acted, or why it refused.
 pub enum Outcome {
     Done,

@@ -2,8 +2,8 @@
 use crate::save::save_from;
 use bytes::byte_at;
 use bytes::put;
-use calls::LAST_LINE;
 use calls::Outcome;
+use machine::LAST_LINE;
 use policy::MEMORY;
 use policy::Policy;
 use savearea::layout::PENDED;

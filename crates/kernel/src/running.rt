@@ -1,7 +1,7 @@
 // Run: ticks by stretches, each of one slot and so of its partition, and the place moves after each stretch.
-use calls::MOST_TICKS_OF_RUN;
 use calls::Outcome;
 use calls::Placed;
+use machine::MOST_TICKS_OF_RUN;
 use machine::Place;
 use policy::MEMORY;
 use policy::Policy;

@@ -1,6 +1,11 @@
 // The tick machine: its instructions, its faults and the schedule place, and in specs/ what a tick does. No code that
 // runs: the crates above prove theirs against these definitions.
 
+// The highest line of a partition, and the most ticks of a Run.
+pub const LAST_LINE: u32 = 7;
+
+pub const MOST_TICKS_OF_RUN: u32 = 10000;
+
 // The kinds of instruction, each with its operands: registers, a number, a segment. Operands of four bytes keep the
 // compiler from packing an instruction into one number; the lines that a listen enables are a byte of the save segment.
 pub enum Instr {
