@@ -1,2 +1,2 @@
--- What holds of every decoded instruction.
+-- That an opcode past the table is no instruction.
 pub mod Laws

@@ -1,4 +1,4 @@
--- In reading order: numbers in bytes, the save segment, instructions, one tick as an effect, the schedule place, and
+-- In reading order: a part of memory, the save segment, instructions, one tick as an effect, the schedule place, and
 -- the machine in the names of source document 003.
 pub mod Bytes
 pub mod Layout
