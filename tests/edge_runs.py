@@ -61,6 +61,16 @@ FULL = policy(
     [(i % 8, 1 + 37 * i % 1000) for i in range(31)] + [(7, 1000)],
 )
 
+# Segments 0 and 8 are written by partitions 0 and 1, 7 by partition 2 alone; 1, 3, 5 are code, 2, 4, 6 save.
+SHARING = policy(
+    [(0, 16), (16, 16), (32, 44), (76, 16), (92, 44), (136, 16), (152, 44), (196, 16), (212, 16)],
+    [(1, 2), (3, 4), (5, 6)],
+    [(0, 0, "w"), (0, 1, "r"), (0, 7, "r"), (0, 8, "w"), (1, 0, "rw"), (1, 3, "r"), (1, 8, "w"), (2, 5, "r"), (2, 7, "w")],
+    [(0, 1), (1, 1), (2, 1)],
+)
+# Its flow lines, in the order of rule 8's targets.
+FLOWS = sorted((tuple(int(n) for n in line.split(b"\t")[1:]) for line in SHARING.split(b"\n") if line.startswith(b"flow")), key=lambda f: f[::-1])
+
 HALT, WAIT, BACK = [0, 0, 0, 0], [10, 0, 0, 0], [12, 0, 0, 0]
 
 
@@ -150,6 +160,14 @@ for field, index, values in CHANGES:
     s = add("record-%s-%d" % (field, index), DEMO).write(0, K5)
     for v in values:
         s.change(field, index, v).start().pend(1, 0).run(2)
+# Rule 8 by target: each line that it asks for taken away and put back, then lines into several targets, one after the other.
+s = add("record-targets", SHARING)
+for a, b in FLOWS:
+    s.change("flows", 32 * a + b, 0).start().change("flows", 32 * a + b, 1).start()
+for a, b in FLOWS:
+    s.change("flows", 32 * a + b, 0).start()
+for a, b in FLOWS:
+    s.change("flows", 32 * a + b, 1).start()
 add("record-of-zeros", b"").start().pend(0, 0).run(0).pend(0, 8).at(1, 1).run(10001)
 add("record-order", DEMO).change("flows", 33, 1).start().pend(2, 8).at(2, 0).run(10001).change("flows", 33, 0).pend(2, 8).run(10001).at(0, 0).run(10001).pend(0, 8)
 add("record-right-taken", DEMO).write(0, K5).start().change("rights", 4, 0).change("flows", 36, 0).run(3).look(64, 44).look(256, 1)

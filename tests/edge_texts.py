@@ -210,6 +210,32 @@ add("flow-w-alone", small(segments=[b"segment 0 0 64", b"segment 1 64 44", b"seg
 add("flow-rw", small(segments=[b"segment 0 0 64", b"segment 1 64 44", b"segment 2 200 8"], rights=[b"right 0 0 r", b"right 0 2 rw"], flows=[b"flow 0 1", b"flow 0 2", b"flow 1 2"]))
 add("flow-rw-all", small(segments=[b"segment 0 0 64", b"segment 1 64 44", b"segment 2 200 8"], rights=[b"right 0 0 r", b"right 0 2 rw"], flows=[b"flow 0 1", b"flow 0 2", b"flow 1 2", b"flow 2 1"]))
 
+# 8 by target. Segment 0 and 8 are written by partitions 0 and 1, 7 by partition 2 alone; 1, 3, 5 are code, 2, 4, 6 save.
+TARGETS = [b"segment 0 0 16", b"segment 1 16 16", b"segment 2 32 44", b"segment 3 76 16", b"segment 4 92 44", b"segment 5 136 16", b"segment 6 152 44", b"segment 7 196 16", b"segment 8 212 16"]
+SHARING = [b"partition 0 1 2", b"partition 1 3 4", b"partition 2 5 6"]
+SHARED = [b"right 0 0 w", b"right 0 1 r", b"right 0 7 r", b"right 0 8 w", b"right 1 0 rw", b"right 1 3 r", b"right 1 8 w", b"right 2 5 r", b"right 2 7 w"]
+ASKED = [
+    (0, 4), (0, 8), (1, 0), (1, 2), (1, 8), (2, 0), (2, 8), (3, 0), (3, 4), (3, 8), (4, 0), (4, 8), (5, 6), (5, 7), (6, 7), (7, 0), (7, 2), (7, 8),
+]
+
+
+def without(*missing):
+    """The policy above with these flow lines left out of those that rule 8 asks for."""
+    return small(TARGETS, SHARING, SHARED, [b"flow %d %d" % f for f in ASKED if f not in missing])
+
+
+add("target-none-missing", without())
+for line in ASKED:
+    add("target-%d-missing-%d" % (line[1], line[0]), without(line))
+add("target-first-missing-all", without(*[f for f in ASKED if f[1] == 0]))
+add("target-last-missing-all", without(*[f for f in ASKED if f[1] == 8]))
+add("target-first-and-last", without((1, 0), (3, 8)))
+add("target-several", without((7, 0), (1, 2), (0, 4), (6, 7), (4, 8)))
+add("target-save-of-each", without((1, 2), (3, 4), (5, 6)))
+add("target-of-two-partitions", without((1, 8), (3, 8)))
+add("target-of-last-partition", without((5, 7), (6, 7)))
+add("target-all-missing", without(*ASKED))
+
 # two rules at once: the order
 add("2-before-3", demo((6, b"segment 5 300 16 1")))
 add("2-before-4", demo((4, b"segment 4 256 04097")))

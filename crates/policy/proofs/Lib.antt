@@ -1,5 +1,6 @@
--- Laws of the definitions, one subject a file; what a sound record gives; that an accepted text's record passes the test.
+-- Laws of the definitions, one subject a file; rule 8 by target; what a sound record gives; that an accepted text's record passes the test.
 pub mod Laws
+pub mod ByTarget
 pub mod Entries
 pub mod Lawful
 pub mod Kept

@@ -6,11 +6,12 @@ pub mod View
 pub mod Access
 pub mod Schedule
 pub mod Chain
--- The rules for a line, 3 to 5, and for the whole policy, 6 to 8.
+-- The rules for a line, 3 to 5, and for the whole policy, 6 to 8; rule 8 by target.
 pub mod Order
 pub mod Range
 pub mod Clash
 pub mod Whole
+pub mod ByTarget
 -- The record, and the reading of a text into it.
 pub mod Record
 pub mod Draft

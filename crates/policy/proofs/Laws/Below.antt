@@ -1,13 +1,19 @@
 -- Tests of the numbers below a bound, one number more at a time, and at each number: by induction on the bound.
 use Prim.Native.Nat.{ℕ, zero, suc, _+_, _*_, _<_, _≤_}
 use mathlib.Core.Path.{_≡_, refl, sym, _∙_, ap}
-use mathlib.Core.Bool.{Bool, true, false, _&&_, _||_, and-true, and-false, and-assoc, or-true}
+use mathlib.Core.Bool.{Bool, true, false, _&&_, _||_, and-true, and-false, and-assoc, or-true, true≢false}
 use native.Mathlib.Nat.{add-zero, add-suc, mul-zero, mul-suc}
 use native.Mathlib.Numerals.{add-one}
 use native.Mathlib.Omega.{arith}
 use native.Mathlib.Decide.{decLt}
 use Rattle.policy.specs.Below.{someBelow, eachBelow}
 use Rattle.policy.proofs.Laws.Bools.{and-left, and-right, or-left, or-right}
+
+-- A number below n that passes.
+pub record Passing (f : ℕ → Bool) (n : ℕ) : Type 0 where
+  pub number : ℕ
+  pub below : number < n
+  pub passes : f number ≡ true
 
 module _ (f : ℕ → Bool) where
   pub some-more : (i : ℕ) → someBelow i f ≡ false → f i ≡ false → someBelow (i + 1) f ≡ false
@@ -26,6 +32,17 @@ module _ (f : ℕ → Bool) where
       go : Dec (i < n) → (i < n → someBelow n f ≡ true) → someBelow n f || f n ≡ true
       go (yes g) more = rw (more g)
       go (no g) more = let q : i ≡ n = omega arith in rw (← q, e, or-true)
+
+  pub some-at : (n : ℕ) → someBelow n f ≡ true → Passing f n
+  unfolding someBelow
+  some-at zero h = absurd (true≢false (sym h))
+  some-at (suc n) h = go (someBelow n f) refl (some-at n)
+    where
+      go : (b : Bool) → someBelow n f ≡ b → (someBelow n f ≡ true → Passing f n) → Passing f (suc n)
+      go true e more =
+          let r = more e in
+          record { number = r .number; below = omega (arith, r .below); passes = r .passes }
+      go false e more = record { number = n; below = omega arith; passes = rw e at h }
 
   pub each-fails : (n i : ℕ) → i < n → f i ≡ false → eachBelow n f ≡ false
   unfolding eachBelow

@@ -1,17 +1,19 @@
--- Where p may write t the masks are compared; where it may not, nothing is asked.
+-- Where the masks agree nothing lacks; where they do not, it is whether p may write t.
 use mathlib.Core.Path.{sym, _∙_}
+use mathlib.Core.Bool.{and-true, and-false}
 use borrow.Author.Needs.{needs}
+use borrow.Author.Tests.{eq-eqb, ne-eqb}
 use Rattle.wholerules.proofs.flows.partition_lacks.Statement.{statement}
 use Rattle.wholerules.proofs.flows.partition_lacks.Tie as tie
+
+returns : tie.Need-returns
+returns c = rw (eq-eqb _ _ (c .if1 .taken), and-false)
 
 may-write-requires : tie.Need-may-write-requires
 may-write-requires c κs = search needs
 
-returns : tie.Need-returns
-returns c = rw (sym (c .before .may-write .ensures) ∙ c .if1 .taken)
-
 returns-2 : tie.Need-returns-2
-returns-2 c = rw (sym (c .before .may-write .ensures) ∙ c .if1 .left)
+returns-2 c = rw (ne-eqb _ _ (c .before .if1 .left), and-true) (c .may-write .ensures)
 
 pub partition-lacks-spec : {M : Type 1} → statement M
-partition-lacks-spec = tie.close (tie.spec may-write-requires returns returns-2)
+partition-lacks-spec = tie.close (tie.spec returns may-write-requires returns-2)
