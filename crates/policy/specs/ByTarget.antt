@@ -1,6 +1,6 @@
--- 02, S-3: rule 8 by target. "Let the check go through the target segments first, ascending, and the partitions inside
--- that. No answer changes. Show that after each target a line has been found missing exactly if one that rule 8 asks
--- for into that target or an earlier one is missing."
+-- 02, S-3: "However it is done now, let the check go through the target segments first, ascending, and the partitions
+-- inside that. No answer changes. Show that after each target a line has been found missing exactly if one that rule 8
+-- asks for into that target or an earlier one is missing."
 use Prim.Native.Nat.{ℕ, zero, suc, _<_}
 use mathlib.Core.Path.{_≡_}
 use mathlib.Core.Bool.{Bool, true, false, _||_}
