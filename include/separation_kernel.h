@@ -9,8 +9,8 @@
 #include <stdint.h>
 
 #define SEPARATION_KERNEL_VERSION_MAJOR 1
-#define SEPARATION_KERNEL_VERSION_MINOR 0
-#define SEPARATION_KERNEL_VERSION "1.0"
+#define SEPARATION_KERNEL_VERSION_MINOR 1
+#define SEPARATION_KERNEL_VERSION "1.1"
 
 /* The bytes of memory that Start, Pend and Run take, and the most bytes of a policy text. */
 #define SK_MEMORY_BYTES 16384
@@ -24,7 +24,7 @@ extern "C" {
 enum sk_refusal {
     SK_DONE = 0,           /* accepted, or done */
     SK_TEXT_TOO_LONG = 1,  /* over 16,384 bytes */
-    SK_BAD_LINE = 2,       /* unknown word, wrong fields, bad number or letters, no line end */
+    SK_BAD_LINE = 2,       /* unknown word, wrong fields, bad number (sk_read says the form) or letters, no line end */
     SK_OUT_OF_ORDER = 3,   /* kind, id or pair out of order */
     SK_OUT_OF_RANGE = 4,   /* too many lines of a kind, a number out of range, a partition or segment that isn't there */
     SK_CLASH = 5,          /* segments overlap, a save segment misused, a flow from a segment to itself */
@@ -66,7 +66,10 @@ struct sk_run_result {
 };
 
 /* Reads a policy text. Accepted: number 0, line 0 and its record. Refused: 1 to 8, the bad line counted from 1 (0 if it is no single line's fault),
- * and the record of zeros. */
+ * and the record of zeros.
+ *
+ * A number is decimal, of 1 to 5 digits, or since 1.1 hexadecimal: 0x and 1 to 4 digits 0-9 or a-f. No leading zero, except in 0 and 0x0. Both forms may
+ * be mixed, so several texts may give one record. */
 struct sk_read_result sk_read(const uint8_t *text, size_t text_len);
 
 /* 1 if some accepted text gives this record, else 0. The other calls refuse all records for which it is 0,

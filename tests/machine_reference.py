@@ -47,7 +47,8 @@ def record_of(text):
 
 
 def sound(record):
-    """ "A record is sound if some accepted text gives it." Only one text can: a line for each entry that is in use. """
+    """ "A record is sound if some accepted text gives it." Such a text has a line for each entry that is in use, and stays accepted, and
+    gets no longer, when all its numbers are written in decimal: so the text made here is one if there is any. """
     r = record
     if r.segments > 32 or r.partitions > 8 or r.slots > 32 or max(r.rights) > 3 or max(r.flows) > 1:
         return False

@@ -1,5 +1,5 @@
 #!/usr/bin/env python3
-"""A reading of a policy text and policycheck's report, written from document 01 alone.
+"""A reading of a policy text and policycheck's report, written from documents 01 and 02 alone.
 
     policy_reference.py < TEXT     writes what policycheck must write for TEXT
 
@@ -12,6 +12,16 @@ FIELDS = [3, 3, 3, 2, 2]
 
 
 def number(field):
+    # 02, S-4: "In all places where a number stands, 0x and one to four digits 0–9 or a–f is now read too, without a leading zero except in 0x0.
+    # [..] capitals and five digits are 2."
+    if field[:2] == b"0x":
+        digits = field[2:]
+        if not 1 <= len(digits) <= 4 or any(b not in b"0123456789abcdef" for b in digits):
+            return None
+        if len(digits) > 1 and digits[0] == 48:
+            return None
+        return int(digits, 16)
+    # 01: "Numbers have 1 to 5 digits and no leading zero, except 0 itself."
     if not 1 <= len(field) <= 5 or any(b < 48 or b > 57 for b in field):
         return None
     if len(field) > 1 and field[0] == 48:

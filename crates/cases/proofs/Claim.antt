@@ -3,14 +3,14 @@ use lib.Count.{trailingZeros}
 use lib.Dec.{T}
 use Rattle.text.specs.Bytes.{same}
 use Rattle.text.specs.Cut.{cut}
-use Rattle.text.specs.Lines.{segmentLine, partitionLine, rightLine, flowLine, slotLine, wordOf, lineOf, linesOfPieces, linesOf}
-use Rattle.text.specs.Number.{allDigits, isNumber, valueFrom, number, letters}
+use Rattle.text.specs.Lines.{segmentLine, partitionLine, rightLine, flowLine, slotLine, wordOf, lineBy, linesOfPieces, linesBy}
+use Rattle.text.specs.Number.{allDigits, isNumber, valueFrom, decimal, beginsHex, hexadecimal, number, letters}
 use Rattle.policy.specs.Below.{someBelow, eachBelow}
 use Rattle.policy.specs.Clash.{clashes}
 use Rattle.policy.specs.Draft.{added}
 use Rattle.policy.specs.Order.{outOfOrder}
 use Rattle.policy.specs.Range.{outOfRange}
-use Rattle.policy.specs.Read.{lineRefusal, wholeRefusal, readLines, readOf}
+use Rattle.policy.specs.Read.{lineRefusal, wholeRefusal, readLines, readBy}
 use Rattle.policy.specs.Sound.{goodSegment, goodPartition, goodSlot, goodRight, goodFlow, allZero, isShaped, countsFit, unusedZero, linesHold, soundOf}
 use Rattle.policy.specs.Whole.{incomplete, codeUnreadable, flowMissing}
 use Rattle.bytes.specs.Numbers.{half, word, withHalf, withWord}
@@ -25,5 +25,5 @@ use Rattle.calls.specs.Start.{startOutcome, cleared, afterStart, startAnswer}
 use Rattle.cases.specs.Cases.{allHold, cases, holds}
 
 pub claim : T (allHold cases)
-unfolding holds same cut segmentLine partitionLine rightLine flowLine slotLine wordOf lineOf linesOfPieces linesOf allDigits isNumber valueFrom number letters someBelow eachBelow clashes added outOfOrder outOfRange lineRefusal wholeRefusal readLines readOf goodSegment goodPartition goodSlot goodRight goodFlow allZero isShaped countsFit unusedZero linesHold soundOf incomplete codeUnreadable flowMissing half word withHalf withWord operandFits operandsFit instructionOf decodeOf fetched faults advanced resulted jumps waits comesBack actsOn takesInterrupt entered interrupted isReady next isPlace moved reaches looks loads storesByte executes obeys steps effect tickOf runOutcome afterTicks afterRun runAnswer startOutcome cleared afterStart startAnswer trailingZeros
+unfolding holds same cut segmentLine partitionLine rightLine flowLine slotLine wordOf lineBy linesOfPieces linesBy allDigits isNumber valueFrom decimal beginsHex hexadecimal number letters someBelow eachBelow clashes added outOfOrder outOfRange lineRefusal wholeRefusal readLines readBy goodSegment goodPartition goodSlot goodRight goodFlow allZero isShaped countsFit unusedZero linesHold soundOf incomplete codeUnreadable flowMissing half word withHalf withWord operandFits operandsFit instructionOf decodeOf fetched faults advanced resulted jumps waits comesBack actsOn takesInterrupt entered interrupted isReady next isPlace moved reaches looks loads storesByte executes obeys steps effect tickOf runOutcome afterTicks afterRun runAnswer startOutcome cleared afterStart startAnswer trailingZeros
 claim = tt

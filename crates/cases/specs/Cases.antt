@@ -1,6 +1,7 @@
--- 01: "K1 to K10 are shown to hold of the definitions by one shared claim over a list of cases".
+-- 01: "K1 to K10 are shown to hold of the definitions by one shared claim over a list of cases". One case more is 02's, S-4:
+-- "Several texts may now give one record".
 use Prim.Native.Nat.{ℕ, _+_, _-_}
-use mathlib.Core.Bool.{Bool, true, false, _&&_}
+use mathlib.Core.Bool.{Bool, true, false, _&&_, not}
 use mathlib.Core.List.{List, [], _∷_, _++_}
 use lib.ListN.{length, getD, take, drop, set, replicate}
 use lib.Seq.{sets}
@@ -8,13 +9,13 @@ use lib.Dec.{eqb}
 use Rattle.text.specs.Bytes.{bytesOf, same}
 use Rattle.policy.specs.declared.record.Policy.{Policy}
 use Rattle.policy.specs.Limits.{single}
-use Rattle.policy.specs.Refusals.{numberOf, lineNumberOf}
+use Rattle.policy.specs.Refusals.{numberOf, lineNumberOf, isAccepted}
 use Rattle.policy.specs.Read.{readOf}
 use Rattle.machine.specs.Place.{placeOf}
 use Rattle.machine.specs.Machine.{State}
 use Rattle.calls.specs.Start.{afterStart}
 use Rattle.calls.specs.Run.{stateOf, afterRun}
-use Rattle.cases.specs.Demonstration.{joined, demonstration}
+use Rattle.cases.specs.Demonstration.{joined, demonstration, inHexadecimal}
 
 -- Bytes from a place of memory on.
 pub record Bytes : Type 0 where
@@ -38,6 +39,8 @@ pub data Case : Type 0 where
   -- under the demonstration policy: the bytes put into a memory of zeros before Start, those put after it, the ticks
   -- run from slot 0 with 0 used, the bytes then found, and the slot and the ticks used then
   runs : List Bytes → List Bytes → ℕ → List Bytes → ℕ → ℕ → Case
+  -- two different texts, both accepted, with one record
+  alike : List ℕ → List ℕ → Case
 
 abbrev pub policy : Policy
 policy = readOf single (joined demonstration) .policy
@@ -47,6 +50,14 @@ abbrev pub ran : List Bytes → List Bytes → ℕ → State
 ran before after n =
     afterRun policy (stateOf (with (afterStart policy (with (replicate 16384 0) before)) after) (placeOf 0 0)) n
 
+-- Whether two records have the same entries.
+abbrev pub samePolicy : Policy → Policy → Bool
+samePolicy p q =
+    eqb (p .segments) (q .segments) && eqb (p .partitions) (q .partitions) && eqb (p .slots) (q .slots)
+    && same (p .base) (q .base) && same (p .size) (q .size) && same (p .code) (q .code) && same (p .save) (q .save)
+    && same (p .owner) (q .owner) && same (p .ticks) (q .ticks) && same (p .rights) (q .rights)
+    && same (p .flows) (q .flows)
+
 unfoldable pub holds : Case → Bool
 holds (reads text n line) =
     let refusal = readOf single text .refusal in
@@ -54,6 +65,10 @@ holds (reads text n line) =
 holds (runs before after n bytes slot used) =
     let x = ran before after n in
     found (x .memory) bytes && eqb (x .place .slot) slot && eqb (x .place .used) used
+holds (alike text other) =
+    let r = readOf single text in
+    let o = readOf single other in
+    not (same text other) && isAccepted (r .refusal) && isAccepted (o .refusal) && samePolicy (r .policy) (o .policy)
 
 abbrev pub allHold : List Case → Bool
 allHold [] = true
@@ -96,4 +111,6 @@ cases =
     -- K10: 0 − 1 is 4,294,967,295
     ∷ runs (bytes 0 (0x03 ∷ 0x00 ∷ 0x01 ∷ 0x02 ∷ []) ∷ []) (bytes 72 (1 ∷ []) ∷ []) 1
     (bytes 64 (0xff ∷ 0xff ∷ 0xff ∷ 0xff ∷ []) ∷ bytes 96 (4 ∷ 0 ∷ 0 ∷ 0 ∷ []) ∷ []) 0 1
+    -- S-4: the demonstration head, and the same in hexadecimal
+    ∷ alike (joined demonstration) (joined inHexadecimal)
     ∷ []

@@ -41,3 +41,26 @@ slots = bytesOf "slot\t0\t3\n" ∷ bytesOf "slot\t1\t2\n" ∷ []
 
 abbrev pub demonstration : List (List ℕ)
 demonstration = segments ++ partitions ++ rights ++ flows ++ slots
+
+-- 02, S-4: "Several texts may now give one record": the same with each number in hexadecimal.
+abbrev pub inHexadecimal : List (List ℕ)
+inHexadecimal =
+    bytesOf "segment\t0x0\t0x0\t0x40\n"
+    ∷ bytesOf "segment\t0x1\t0x40\t0x2c\n"
+    ∷ bytesOf "segment\t0x2\t0x80\t0x40\n"
+    ∷ bytesOf "segment\t0x3\t0xc0\t0x2c\n"
+    ∷ bytesOf "segment\t0x4\t0x100\t0x10\n"
+    ∷ bytesOf "partition\t0x0\t0x0\t0x1\n"
+    ∷ bytesOf "partition\t0x1\t0x2\t0x3\n"
+    ∷ bytesOf "right\t0x0\t0x0\tr\n"
+    ∷ bytesOf "right\t0x0\t0x4\tw\n"
+    ∷ bytesOf "right\t0x1\t0x2\tr\n"
+    ∷ bytesOf "right\t0x1\t0x4\tr\n"
+    ∷ bytesOf "flow\t0x0\t0x1\n"
+    ∷ bytesOf "flow\t0x0\t0x4\n"
+    ∷ bytesOf "flow\t0x1\t0x4\n"
+    ∷ bytesOf "flow\t0x2\t0x3\n"
+    ∷ bytesOf "flow\t0x4\t0x3\n"
+    ∷ bytesOf "slot\t0x0\t0x3\n"
+    ∷ bytesOf "slot\t0x1\t0x2\n"
+    ∷ []

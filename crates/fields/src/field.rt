@@ -1,6 +1,7 @@
 // One field of a line, read by value at a place. The place stands at the end of the field before, so at a tab or at the
 // line's end. A reader is lent the whole text and finds the field's end itself, so that each byte is passed once.
-// Where no such field stands, the place stays.
+// Where no such field stands, the place stays; it is written anew by its fields, since a copy of the whole record also
+// moves the bytes between them.
 ghost use mathlib.Core.Path.{_≡_};
 ghost use Prim.Native.Nat.{_<_};
 ghost use Rattle.text.specs.Places.{upTo};
@@ -10,39 +11,39 @@ use text::EndRead;
 use text::Number;
 use text::NumberRead;
 
-// The next field, read as a number: 1 to 5 digits and then the field's end, no leading zero but in 0 itself.
+// The next field, read as a number, decimal or past 0x hexadecimal: digits to the field's end, as many as there may be,
+// and a leading 0 alone.
 pub fn read_number(text: &[u8], c: Cursor) -> NumberRead
     ensures { λ r. ⌜ r ≡ numberRead (upTo (now (text .entry)) (c .at)) c ⌝ }
 {
+    let at = c.at;
+    let line = c.line;
     let none = NumberRead {
         number: Number::Malformed,
-        next: c,
+        next: Cursor { at, line },
     };
-    let at = c.at;
     if text.len() <= at {
         return none;
     }
     if text[at] == b'\n' {
         return none;
     }
-    let from = at + 1;
-    let d = crate::scan::digits_from(text, from);
+    let d = crate::scan::digits_at(text, at + 1);
+    let ended = d.ended;
+    if !ended {
+        return none;
+    }
+    let from = d.from;
     let end = d.end;
     if end == from {
         return none;
     }
-    if !crate::scan::ends(text, end) {
-        return none;
-    }
-    if (text[from] == b'0') & (from + 1 < end) {
+    if crate::scan::room(text[from], d.most) < end - from {
         return none;
     }
     NumberRead {
         number: Number::Value(d.value),
-        next: Cursor {
-            at: end,
-            line: c.line,
-        },
+        next: Cursor { at: end, line },
     }
 }
 
@@ -52,7 +53,10 @@ pub fn read_letters(text: &[u8], c: Cursor) -> NumberRead
 {
     let none = NumberRead {
         number: Number::Malformed,
-        next: c,
+        next: Cursor {
+            at: c.at,
+            line: c.line,
+        },
     };
     let at = c.at;
     if text.len() <= at {
@@ -83,7 +87,10 @@ pub fn read_end(text: &[u8], c: Cursor) -> EndRead
 {
     let none = EndRead {
         ended: false,
-        next: c,
+        next: Cursor {
+            at: c.at,
+            line: c.line,
+        },
     };
     let at = c.at;
     if text.len() <= at {

@@ -40,7 +40,7 @@ fn found(kind: Kind, end: usize, line: u32) -> WordRead
     }
 }
 
-// The first field of the line, read as the record word.
+// The first field of the line, read as the record word. The words that most lines have are tried first.
 pub fn read_word(text: &[u8], c: Cursor) -> WordRead
     ensures { λ r. ⌜ r ≡ wordRead (upTo (now (text .entry)) (c .at)) c ⌝ }
 {
@@ -49,20 +49,20 @@ pub fn read_word(text: &[u8], c: Cursor) -> WordRead
     if text.len() < at {
         return found(Kind::Unknown, at, line);
     }
+    if stands(text, at, b"flow") {
+        return found(Kind::OfFlow, at + 4, line);
+    }
+    if stands(text, at, b"right") {
+        return found(Kind::OfRight, at + 5, line);
+    }
+    if stands(text, at, b"slot") {
+        return found(Kind::OfSlot, at + 4, line);
+    }
     if stands(text, at, b"segment") {
         return found(Kind::OfSegment, at + 7, line);
     }
     if stands(text, at, b"partition") {
         return found(Kind::OfPartition, at + 9, line);
-    }
-    if stands(text, at, b"right") {
-        return found(Kind::OfRight, at + 5, line);
-    }
-    if stands(text, at, b"flow") {
-        return found(Kind::OfFlow, at + 4, line);
-    }
-    if stands(text, at, b"slot") {
-        return found(Kind::OfSlot, at + 4, line);
     }
     found(Kind::Unknown, field_end(text, at), line)
 }

@@ -7,6 +7,7 @@ use mathlib.Core.List.{List, [], _∷_}
 use lib.ListN.{length}
 use lib.Dec.{ltb}
 use Rattle.text.specs.Lines.{linesOf}
+use Rattle.text.specs.Number.{number}
 use Rattle.text.specs.declared.line.Line.{Line}
 use Rattle.text.specs.declared.line.Line.the-variants.{Bad, Segment, Partition, Right, Flow, Slot}
 use Rattle.policy.specs.declared.record.Policy.{Policy}
@@ -21,7 +22,7 @@ use Rattle.policy.specs.Clash.{clashes}
 use Rattle.policy.specs.Record.{zeros, viewOf}
 use Rattle.policy.specs.Draft.{added, begun, after}
 use Rattle.policy.specs.Refusals.{isAccepted}
-use Rattle.policy.specs.Read.{isBad, lineRefusal, wholeRefusal, answer, readLines, readOf}
+use Rattle.policy.specs.Read.{isBad, lineRefusal, wholeRefusal, answer, readLines, readBy}
 use Rattle.policy.specs.Sound.{Sound, soundOf}
 use Rattle.policy.specs.Lawful.{Lawful}
 use Rattle.policy.proofs.Laws.Whole.{passed}
@@ -102,7 +103,7 @@ module _ (p : Policy) where
       go false a e more = absurd (refused (lineRefusal single n d line) zeros p a e)
 
 pub accepted : (p : Policy) → Sound p → soundOf p ≡ true
-unfolding readOf
+unfolding readBy
 accepted p s = go (ltb (single .text) (length (s .text))) (s .gives)
   where
     lines : List Line
@@ -110,7 +111,7 @@ accepted p s = go (ltb (single .text) (length (s .text))) (s .gives)
 
     go : (b : Bool) → Accepts (cond b (answer TooLong zeros) (readLines single 1 begun lines)) p → soundOf p ≡ true
     go true e = absurd (refused TooLong zeros p refl e)
-    go false e = lines-kept p lines 1 begun (lines-lettered (s .text)) kept-none e
+    go false e = lines-kept p lines 1 begun (lines-lettered number (s .text)) kept-none e
 
 pub sound-lawful : (p : Policy) → Sound p → Lawful single (viewOf p)
 sound-lawful p s = lawful p (accepted p s)

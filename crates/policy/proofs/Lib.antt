@@ -5,3 +5,4 @@ pub mod Entries
 pub mod Lawful
 pub mod Kept
 pub mod Accepted
+pub mod DecimalTexts

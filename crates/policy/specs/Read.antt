@@ -4,7 +4,9 @@ use mathlib.Core.Bool.{Bool, true, false, cond}
 use mathlib.Core.List.{List, [], _∷_}
 use lib.ListN.{length}
 use lib.Dec.{ltb}
-use Rattle.text.specs.Lines.{linesOf}
+use Rattle.text.specs.Lines.{linesBy}
+use Rattle.text.specs.Number.{number}
+use Rattle.text.specs.declared.line.Number.{Number}
 use Rattle.text.specs.declared.line.Line.{Line}
 use Rattle.text.specs.declared.line.Line.the-variants.{Bad, Segment, Partition, Right, Flow, Slot}
 use Rattle.policy.specs.declared.record.Policy.{Policy}
@@ -70,8 +72,12 @@ readLines limits n d (line ∷ lines) =
     let rest = readLines limits (n + 1) (after d line) lines in
     cond (isAccepted refusal) rest (answer refusal zeros)
 
--- "1: over 16,384 bytes, line 0. Then the first bad line, counted from 1"
-unfoldable pub readOf : Limits → List ℕ → Reading
-readOf limits text =
-    let rest = readLines limits 1 begun (linesOf text) in
+-- "1: over 16,384 bytes, line 0. Then the first bad line, counted from 1", with numbers read so.
+unfoldable pub readBy : (List ℕ → Number) → Limits → List ℕ → Reading
+readBy read limits text =
+    let rest = readLines limits 1 begun (linesBy read text) in
     cond (tooLong limits text) (answer TooLong zeros) rest
+
+-- 02, S-4: decimal and hexadecimal, "in all places where a number stands". What 01 alone reads is `readBy decimal`.
+abbrev pub readOf : Limits → List ℕ → Reading
+readOf limits text = readBy number limits text

@@ -7,7 +7,7 @@ use native.Mathlib.Omega.{arith}
 use borrow.Author.Tests.{le-ltb}
 use lib.ListN.{length}
 use Rattle.policy.specs.Limits.{single}
-use Rattle.policy.specs.Read.{readOf}
+use Rattle.policy.specs.Read.{readBy, readOf}
 use Rattle.policy.specs.Sound.{Sound, soundOf}
 use Rattle.policy.specs.declared.record.Policy.{Policy}
 use Rattle.policy.specs.declared.record.Refusal.the-variants.{Accepted}
@@ -27,7 +27,7 @@ module _ (p : Policy) (h : soundOf p ≡ true) where
   printed-short = rw bound-single at printed-bound
 
   pub printed-gives : readOf single (textOf p) ≡ record { refusal = Accepted; policy = p }
-  unfolding readOf textOf
+  unfolding readBy textOf
   printed-gives =
       rw (
         le-ltb 16384 (length (textOf p)) (omega (arith, printed-short)),

@@ -1,4 +1,4 @@
--- 01, "The policy text": "Numbers have 1 to 5 digits and no leading zero, except 0 itself." How a number is written.
+-- 01, "The policy text": "Numbers have 1 to 5 digits and no leading zero, except 0 itself." How a number is printed: in decimal.
 use Prim.Native.Nat.{ℕ, zero, suc, _+_, _/_, _%_}
 use mathlib.Core.Bool.{cond}
 use mathlib.Core.List.{List, [], _∷_}

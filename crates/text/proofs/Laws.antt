@@ -10,6 +10,8 @@ pub mod Ends
 pub mod Words
 pub mod Numbers
 pub mod Digits
+pub mod Scan
+pub mod After
 -- The readers: what each finds, that the place moves forward and stays on its line, and what the line says.
 pub mod Readers
 pub mod Forward

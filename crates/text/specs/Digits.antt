@@ -1,20 +1,48 @@
--- 01, "The policy text": "Numbers have 1 to 5 digits". The digits that stand at a place, whether or not the field ends
--- after them.
-use Prim.Native.Nat.{ℕ, zero, suc, _+_}
-use mathlib.Core.Bool.{cond}
+-- The digits that stand at a place, however many, and those of a number there: decimal ones, or hexadecimal ones past 0x.
+use Prim.Native.Nat.{ℕ, _+_, _%_}
+use mathlib.Core.Bool.{Bool, _&&_, _||_, cond}
 use mathlib.Core.List.{List, [], _∷_}
-use lib.ListN.{length, drop}
+use lib.Dec.{eqb}
+use lib.ListN.{length, drop, getD}
 use Rattle.text.specs.declared.read.Digits.{Digits}
-use Rattle.text.specs.Number.{isDigit, valueFrom}
+use Rattle.text.specs.declared.read.NumberDigits.{NumberDigits}
+use Rattle.text.specs.Cut.{tab, lineEnd}
+use Rattle.text.specs.Number.{Notation, ten, sixteen, valueFrom}
 
--- The digits in front of bytes, at most k of them.
-unfoldable pub digitsIn : ℕ → List ℕ → List ℕ
-digitsIn zero bs = []
-digitsIn (suc k) [] = []
-digitsIn (suc k) (b ∷ bs) = let rest = digitsIn k bs in cond (isDigit b) (b ∷ rest) []
+-- The digits in front of bytes.
+unfoldable pub digitsIn : Notation → List ℕ → List ℕ
+digitsIn form [] = []
+digitsIn form (b ∷ bs) = let rest = digitsIn form bs in cond (form .isDigit b) (b ∷ rest) []
 
--- The digits at a place, at most five of them: what they write, and where they end.
-unfoldable pub digitsRead : List ℕ → ℕ → Digits
-digitsRead text from =
-    let digits = digitsIn 5 (drop from text) in
-    record { value = valueFrom 0 digits; end = from + length digits }
+-- The digits at a place.
+unfoldable pub digitsRead : Notation → List ℕ → ℕ → Digits
+digitsRead form text from =
+    let digits = digitsIn form (drop from text) in
+    record {
+      value = valueFrom form 0 digits % 4294967296;
+      end = from + length digits;
+      stop = getD (drop from text) (length digits) lineEnd;
+    }
+
+-- What a byte is worth as a digit; the base, which no digit is worth, for a byte that is none.
+unfoldable pub digitWorth : Notation → ℕ → ℕ
+digitWorth form b = cond (form .isDigit b) (form .worth b) (form .base)
+
+-- A field ends at a tab and at a line end.
+abbrev pub parts : ℕ → Bool
+parts b = eqb b tab || eqb b lineEnd
+
+-- Digits from a place on, as those of a number.
+abbrev pub asNumber : Notation → ℕ → Digits → NumberDigits
+asNumber form from d =
+    record { value = d .value; from = from; most = form .most; end = d .end; ended = parts (d .stop) }
+
+-- Whether decimal digits are the single 0 in front of x.
+abbrev pub marks : ℕ → Digits → Bool
+marks from d = eqb (d .stop) 0x78 && eqb (d .end) (from + 1) && eqb (d .value) 0
+
+-- The digits of the number at a place: past 0x hexadecimal, else decimal.
+unfoldable pub numberDigits : List ℕ → ℕ → NumberDigits
+numberDigits text from =
+    let d = digitsRead ten text from in
+    cond (marks from d) (asNumber sixteen (from + 2) (digitsRead sixteen text (from + 2))) (asNumber ten from d)

@@ -5,8 +5,12 @@ pub mod Bytes
 pub mod Cut
 -- What digits and letters write.
 pub mod Number
+-- Fields that are numbers, and some that are none.
+pub mod Examples
 -- What a line says, and the lines of a text.
 pub mod Lines
+-- The texts without hexadecimal numbers.
+pub mod DecimalTexts
 -- What stands at a place of a text.
 pub mod Places
 -- The digits at a place.

@@ -13,5 +13,6 @@ pub use read::Digits;
 pub use read::EndRead;
 pub use read::FieldsRead;
 pub use read::LineRead;
+pub use read::NumberDigits;
 pub use read::NumberRead;
 pub use read::WordRead;

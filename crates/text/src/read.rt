@@ -4,10 +4,21 @@ use crate::line::Kind;
 use crate::line::Line;
 use crate::line::Number;
 
-// What digits write, and where they end.
+// What digits write, modulo 4,294,967,296, where they end, and the byte there, a line end where the text ends.
 pub struct Digits {
     pub value: u32,
     pub end: usize,
+    pub stop: u8,
+}
+
+// The digits of a number: what they write, where they begin, how many there may be, where they end, and whether the
+// field ends there.
+pub struct NumberDigits {
+    pub value: u32,
+    pub from: usize,
+    pub most: usize,
+    pub end: usize,
+    pub ended: bool,
 }
 
 // The record word.

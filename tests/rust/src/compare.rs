@@ -23,7 +23,7 @@ pub fn record_difference(kernel: &dyn Kernel, policy: &Policy) -> Option<String>
     (want != got).then(|| format!("sound: reference {want}, {} {got}", kernel.name()))
 }
 
-/// The definition itself, "some accepted text gives it": only one text can.
+/// The definition itself, "some accepted text gives it": if any does, the one with decimal numbers does.
 pub fn text_gives(policy: &Policy) -> bool {
     print(policy).is_some_and(|text| judge(text.as_bytes()).is_ok_and(|record| record == *policy))
 }
@@ -75,6 +75,23 @@ pub fn list_difference(kernel: &dyn Kernel, list: &List) -> Option<String> {
     None
 }
 
+/// In which forms the numbers of a text are written.
+fn forms(text: &[u8]) -> &'static str {
+    let (mut decimal, mut hexadecimal) = (false, false);
+    for field in text.split(|byte| matches!(byte, b'\t' | b'\n')).filter(|field| field.first().is_some_and(u8::is_ascii_digit)) {
+        if field.starts_with(b"0x") {
+            hexadecimal = true;
+        } else {
+            decimal = true;
+        }
+    }
+    match (decimal, hexadecimal) {
+        (true, true) => "in both forms",
+        (false, true) => "in hexadecimal",
+        _ => "in decimal",
+    }
+}
+
 /// How often each case came up.
 #[derive(Default)]
 pub struct Reached(pub BTreeMap<String, u64>);
@@ -90,11 +107,15 @@ impl Reached {
 
     pub fn text(&mut self, text: &[u8]) {
         match judge(text) {
-            Ok(_) => self.count("accepted"),
+            Ok(_) => self.count(&format!("accepted, {}", forms(text))),
             Err(refusal) => {
                 self.count(refusal.why);
                 if let Some(also) = refusal.also {
                     self.count(&format!("{} and {} on one line", &refusal.why[..1], &also[..1]));
+                }
+                if let 3..=5 = refusal.number {
+                    let line = text.split(|&byte| byte == b'\n').nth(refusal.line as usize - 1).unwrap_or_default();
+                    self.count(&format!("{} on a line {}", refusal.number, forms(line)));
                 }
             }
         }
@@ -155,8 +176,10 @@ const LINES: [&str; 8] =
 const OPCODES: [&str; 13] = ["halt", "set", "add", "sub", "and", "xor", "shift", "load", "store", "jump", "wait", "listen", "back"];
 
 /// Every reason of a refused text, and every outcome of a record.
-pub const TEXT_CASES: [&str; 46] = [
-    "accepted",
+pub const TEXT_CASES: [&str; 63] = [
+    "accepted, in decimal",
+    "accepted, in both forms",
+    "accepted, in hexadecimal",
     "1 over 16,384 bytes",
     "2 no line end",
     "2 unknown word",
@@ -164,6 +187,12 @@ pub const TEXT_CASES: [&str; 46] = [
     "2 bad number: digits",
     "2 bad number: not a digit",
     "2 bad number: leading zero",
+    "2 bad number: capital X",
+    "2 bad hexadecimal number: no digit",
+    "2 bad hexadecimal number: over four digits",
+    "2 bad hexadecimal number: capital",
+    "2 bad hexadecimal number: leading zero",
+    "2 bad hexadecimal number: not a digit",
     "2 bad letters",
     "3 kind out of order",
     "3 segment id out of order",
@@ -201,6 +230,15 @@ pub const TEXT_CASES: [&str; 46] = [
     "3 and 4 on one line",
     "3 and 5 on one line",
     "4 and 5 on one line",
+    "3 on a line in decimal",
+    "3 on a line in both forms",
+    "3 on a line in hexadecimal",
+    "4 on a line in decimal",
+    "4 on a line in both forms",
+    "4 on a line in hexadecimal",
+    "5 on a line in decimal",
+    "5 on a line in both forms",
+    "5 on a line in hexadecimal",
     "sound",
 ];
 

@@ -3,6 +3,7 @@
 pub mod lists;
 pub mod memories;
 pub mod mutations;
+pub mod numbers;
 pub mod policies;
 pub mod programs;
 pub mod records;

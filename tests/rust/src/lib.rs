@@ -1,5 +1,5 @@
-//! An independent implementation of the separation kernel, written from the scope document alone, and what holds the proved kernel to it: generators
-//! of texts, records, programs and call lists, the comparison, and the test of separation over whole runs.
+//! An independent implementation of the separation kernel, written from the scope document and the change requests alone, and what holds the proved
+//! kernel to it: generators of texts, records, programs and call lists, the comparison, and the test of separation over whole runs.
 
 #[cfg(feature = "archive")]
 pub mod archive;

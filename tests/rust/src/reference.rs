@@ -1,4 +1,5 @@
-//! The correctness reference: the rules of the scope document in plain code, each with the sentence that it follows. Nothing here is made for speed.
+//! The correctness reference: the rules of the scope document and the change requests in plain code, each with the sentence that it follows. Nothing
+//! here is made for speed.
 
 mod calls;
 mod line;

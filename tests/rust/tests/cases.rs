@@ -1,10 +1,14 @@
-//! The cases of the scope document, on the reference and on each kernel.
+//! The cases of the scope document and of the change requests, on the reference and on each kernel.
 
 use separation::boundary::{Kernel, Place, Policy, ReadResult, RunResult, MEMORY};
-use separation::generate::policies::{longest, DEMONSTRATION};
-use separation::generate::texts::text_of;
-use separation::kernels;
+use separation::compare::text_difference;
+use separation::generate::mutations::{join, split};
+use separation::generate::numbers::{is_place, rewrite};
+use separation::generate::policies::{full_in_hexadecimal, longest, policy, Shape, DEMONSTRATION};
+use separation::generate::texts::{hexadecimal_text_of, text, text_of};
+use separation::random::Random;
 use separation::reference::{report, Reference, SAVE};
+use separation::{kernels, show};
 
 fn each(test: impl Fn(&dyn Kernel)) {
     test(&Reference);
@@ -156,4 +160,157 @@ fn one_more_line_than_there_is_room_for() {
         let lines = text.lines().count() as u32;
         assert_eq!(kernel.read(format!("{text}slot\t0\t1\n").as_bytes()), refused(4, lines + 1));
     });
+}
+
+fn accepted(policy: Policy) -> ReadResult {
+    ReadResult { number: 0, line: 0, policy }
+}
+
+/// Values at the edges of the hexadecimal form, as a base, a length and ticks, and how a line with them is judged.
+#[test]
+fn hexadecimal_values_at_the_edges() {
+    let cases = [
+        ("0x0", 0, [5, 4, 4]),
+        ("0x1", 1, [5, 0, 0]),
+        ("0xa", 10, [5, 0, 0]),
+        ("0xf", 15, [5, 0, 0]),
+        ("0x10", 16, [5, 0, 0]),
+        ("0xff", 255, [0, 0, 0]),
+        ("0x100", 256, [0, 0, 0]),
+        ("0x3e8", 1_000, [0, 0, 0]),
+        ("0x3e9", 1_001, [0, 0, 4]),
+        ("0xffff", 65_535, [4, 4, 4]),
+    ];
+    each(|kernel| {
+        for (form, value, numbers) in cases {
+            let text = |base: &str, length: &str, ticks: &str| {
+                let start = "segment\t0\t0\t64\nsegment\t1\t64\t44\n";
+                let rest = "partition\t0\t0\t1\nright\t0\t0\tr\nflow\t0\t1\n";
+                format!("{start}segment\t2\t{base}\t{length}\n{rest}slot\t0\t{ticks}\n").into_bytes()
+            };
+            let answers = [text(form, "16", "1"), text("8192", form, "1"), text("8192", "16", form)].map(|text| kernel.read(&text));
+            let lines = [3, 3, 7];
+            let entries = answers.map(|answer| [answer.policy.base[2], answer.policy.size[2], answer.policy.slot_ticks[0]]);
+            for place in 0..3 {
+                if numbers[place] == 0 {
+                    assert_eq!((answers[place].number, answers[place].line, entries[place][place]), (0, 0, value), "{form} at {place}");
+                } else {
+                    assert_eq!(answers[place], refused(numbers[place], lines[place]), "{form} at {place}");
+                }
+            }
+        }
+    });
+}
+
+/// "Several texts may now give one record".
+#[test]
+fn one_record_from_several_texts() {
+    let record = demonstration();
+    let all = String::from_utf8(hexadecimal_text_of(&record)).unwrap();
+    assert!(all.starts_with("segment\t0x0\t0x0\t0x40\nsegment\t0x1\t0x40\t0x2c\n") && all.ends_with("slot\t0x0\t0x3\nslot\t0x1\t0x2\n"));
+    let mut texts = vec![DEMONSTRATION.to_string(), all];
+    let mut random = Random::new(21);
+    for rate in [2, 2, 3, 5, 10] {
+        let mut lines = split(DEMONSTRATION.as_bytes());
+        rewrite(&mut random, &mut lines, rate);
+        texts.push(String::from_utf8(join(&lines)).unwrap());
+    }
+    each(|kernel| {
+        for text in &texts {
+            assert_eq!(kernel.read(text.as_bytes()), accepted(record), "{text}");
+        }
+    });
+    // The report is in decimal.
+    assert!(texts.iter().all(|text| report(text.as_bytes()) == report(DEMONSTRATION.as_bytes())));
+}
+
+/// "Refused: capitals and five digits are 2", in each place where a number stands.
+#[test]
+fn capitals_and_five_digits_are_2() {
+    let bad =
+        ["0XA", "0X1", "0xA", "0xF", "0xaB", "0xBa", "0x10000", "0x0ffff", "0xabcde", "0x", "0X", "0x00", "0x01", "0xg", "0x1g", "1a", "ff", "x1"];
+    let lines = split(DEMONSTRATION.as_bytes());
+    for (at, line) in lines.iter().enumerate() {
+        for field in 1..line.len() {
+            for form in bad {
+                let mut lines = lines.clone();
+                lines[at][field] = form.into();
+                let text = join(&lines);
+                each(|kernel| assert_eq!(kernel.read(&text), refused(2, at as u32 + 1), "{}", show::text(&text)));
+            }
+            // A good number too where letters are due.
+            let mut lines = lines.clone();
+            lines[at][field] = b"0x1".to_vec();
+            let text = join(&lines);
+            each(|kernel| assert_eq!(kernel.read(&text).number == 2, !is_place(line, field), "{}", show::text(&text)));
+        }
+    }
+}
+
+/// "decimal texts give what they gave": the printed text of a record gives the record; so does the one in hexadecimal, unless it is too long.
+#[test]
+fn a_records_texts_give_the_record() {
+    let mut random = Random::new(22);
+    for _ in 0..2_000 {
+        let shape = Shape::any(&mut random);
+        let record = policy(&mut random, shape);
+        let (decimal, hexadecimal) = (text_of(&record), hexadecimal_text_of(&record));
+        assert!(decimal.len() < hexadecimal.len());
+        each(|kernel| {
+            assert_eq!(kernel.read(&decimal), accepted(record));
+            assert_eq!(kernel.read(&hexadecimal), if hexadecimal.len() > 16_384 { refused(1, 0) } else { accepted(record) });
+        });
+    }
+}
+
+#[test]
+fn refusal_1_counts_bytes() {
+    let record = full_in_hexadecimal();
+    let text = hexadecimal_text_of(&record);
+    assert_eq!((text.len(), text_of(&record).len()), (16_384, 12_293));
+    let mut longer = record;
+    longer.rights[32 * 7 + 31] = 3;
+    each(|kernel| {
+        assert_eq!(kernel.read(&text), accepted(record));
+        assert_eq!(kernel.read(&text_of(&record)), accepted(record));
+        assert_eq!(kernel.read(&hexadecimal_text_of(&longer)), refused(1, 0));
+        assert_eq!(kernel.read(&text_of(&longer)), accepted(longer));
+        assert_eq!(kernel.read(&hexadecimal_text_of(&longest())), refused(1, 0));
+    });
+}
+
+/// Random texts, good and bad: the kernels agree on them, and no answer changes with the form of a number.
+#[test]
+fn the_other_form_changes_no_answer() {
+    let mut random = Random::new(23);
+    for _ in 0..20_000 {
+        let mut lines = split(&text(&mut random));
+        let one = join(&lines);
+        let rate = random.pick(&[1, 1, 2, 4]);
+        rewrite(&mut random, &mut lines, rate);
+        let other = join(&lines);
+        for kernel in kernels() {
+            assert_eq!(text_difference(&*kernel, &other), None, "{}", show::text(&other));
+        }
+        if one.len() <= 16_384 && other.len() <= 16_384 {
+            each(|kernel| assert_eq!(kernel.read(&one), kernel.read(&other), "{}{}", show::text(&one), show::text(&other)));
+        }
+    }
+}
+
+/// The texts of tests/edge_texts.py, with the answers of the Python reference.
+#[test]
+fn edge_texts_have_their_stored_answers() {
+    let mut cases: &[u8] = include_bytes!("../../../crates/texts/data/cases");
+    for expected in include_str!("../../../crates/texts/stdout").lines() {
+        let header = std::str::from_utf8(&cases[..48]).unwrap();
+        let (name, length): (&str, usize) = (header[..40].trim_end(), header[40..47].parse().unwrap());
+        let text = &cases[48..48 + length];
+        cases = &cases[48 + length..];
+        each(|kernel| {
+            let answer = kernel.read(text);
+            assert_eq!(format!("{name}\t{}\t{}", answer.number, answer.line), expected, "{}", kernel.name());
+        });
+    }
+    assert!(cases.is_empty());
 }

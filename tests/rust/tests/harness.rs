@@ -3,6 +3,8 @@
 use separation::boundary::{Kernel, Place, Policy, ReadResult, RunResult, MEMORY};
 use separation::compare::{list_difference, text_difference, text_gives};
 use separation::generate::lists::{list, Call};
+use separation::generate::mutations::split;
+use separation::generate::numbers::worth;
 use separation::generate::policies::{longest, policy, Shape};
 use separation::generate::texts::text;
 use separation::leaky::{Leaky, LEAKS};
@@ -61,8 +63,10 @@ fn a_wrong_reader_is_found_and_the_text_is_made_short() {
     let mut random = Random::new(12);
     let found = (0..20_000).map(|_| text(&mut random)).find(|text| text_difference(&Wrong, text).is_some()).expect("a text that tells");
     let short = shrink::shrink_text(&found, &mut |text| text_difference(&Wrong, text).is_some());
-    // The bad length alone: an id in order, any base, and the length.
-    assert_eq!(show::text(&short).lines().count(), 2, "{}", show::text(&short));
+    // The bad length alone, after the segments that its id asks for.
+    let lines = split(&short);
+    let last = lines.last().expect("a line");
+    assert_eq!((&last[0][..], worth(&last[1])), (b"segment" as &[u8], Some(lines.len() - 1)), "{}", show::text(&short));
     assert!(short.ends_with(b"\t4097\n"));
 }
 

@@ -9,7 +9,8 @@ use borrow.Author.Tests.{ltb-false}
 use lib.Dec.{eqb, ltb}
 use lib.ListN.{length}
 use Rattle.text.specs.Cut.{cut, onto, lineEnd}
-use Rattle.text.specs.Lines.{linesOf, linesOfPieces}
+use Rattle.text.specs.Lines.{linesOf, linesBy, linesOfPieces}
+use Rattle.text.specs.Number.{number}
 use Rattle.text.specs.declared.line.Line.{Line}
 use Rattle.policy.specs.declared.record.Policy.{Policy}
 use Rattle.policy.specs.declared.record.Draft.{Draft}
@@ -25,7 +26,7 @@ use Rattle.policy.specs.Whole.{incomplete, codeUnreadable, flowMissing}
 use Rattle.policy.specs.Record.{zeros, viewOf}
 use Rattle.policy.specs.Draft.{begun, after}
 use Rattle.policy.specs.Refusals.{isAccepted, lineNumberOf}
-use Rattle.policy.specs.Read.{isBad, lineRefusal, wholeRefusal, answer, readLines, readOf}
+use Rattle.policy.specs.Read.{isBad, lineRefusal, wholeRefusal, answer, readLines, readBy, readOf}
 use Rattle.policy.specs.Sound.{Sound}
 use Rattle.policy.specs.Lawful.{Lawful}
 use Rattle.policy.proofs.Accepted.{sound-lawful}
@@ -42,7 +43,7 @@ cut-length (b ∷ l) = go (eqb b lineEnd) (cut lineEnd l) (cut-length l)
     go false [] h = omega arith
     go false (p ∷ ps) h = omega arith
 
-pieces-length : (ps : List (List ℕ)) → length (linesOfPieces ps) ≤ length ps
+pieces-length : (ps : List (List ℕ)) → length (linesOfPieces number ps) ≤ length ps
 unfolding linesOfPieces
 pieces-length [] = omega arith
 pieces-length ([] ∷ []) = omega arith
@@ -50,7 +51,7 @@ pieces-length ((b ∷ bs) ∷ []) = omega arith
 pieces-length (p ∷ q ∷ ps) = let h = pieces-length (q ∷ ps) in omega arith
 
 lines-length : (text : List ℕ) → length (linesOf text) ≤ length text + 1
-unfolding linesOf
+unfolding linesBy
 lines-length text = omega (arith, pieces-length (cut lineEnd text), cut-length text)
 
 -- What a refusal may name.
@@ -103,7 +104,7 @@ whole-answered text false e =
     record { named = omega (arith, h .named, lines-length text, ltb-false 16384 (length text) e); empty = h .empty }
 
 text-answered : (text : List ℕ) → Answered 16386 [] (readOf single text)
-unfolding readOf
+unfolding readBy
 text-answered text = whole-answered text (ltb (single .text) (length text)) refl
 
 -- "A refusal returns number, line and the record of zeros."

@@ -1,4 +1,4 @@
--- The text of a record that passes is at most as long as the widest line of each kind, for each place that can have one.
+-- The printed text of a record that passes is at most as long as the widest line of each kind, for each place that can have one.
 use Prim.Native.Nat.{ℕ, zero, suc, _+_, _*_, _≤_, _<_, _/_, _%_, zero-le}
 use mathlib.Core.Path.{_≡_, refl, sym}
 use mathlib.Core.Bool.{cond}

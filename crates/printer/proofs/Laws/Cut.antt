@@ -8,7 +8,7 @@ use borrow.Author.Tests.{eq-eqb, ne-eqb, leb-true, lt-ltb, ltb-true, not-true}
 use lib.ListN.{length}
 use lib.Dec.{eqb, leb, ltb}
 use Rattle.text.specs.Cut.{cut, onto, tab, lineEnd}
-use Rattle.text.specs.Number.{isDigit, allDigits}
+use Rattle.text.specs.Number.{ten, zeroToNine, allDigits}
 use Rattle.policy.proofs.Laws.Bools.{and-left, and-right}
 use Rattle.printer.specs.Printer.{parted}
 
@@ -26,13 +26,13 @@ unfoldable pub allPlain : List (List ℕ) → Bool
 allPlain [] = true
 allPlain (f ∷ fs) = plain f && allPlain fs
 
-pub digits-plain : (l : List ℕ) → allDigits l ≡ true → plain l ≡ true
+pub digits-plain : (l : List ℕ) → allDigits ten l ≡ true → plain l ≡ true
 unfolding plain allDigits
 digits-plain [] h = refl
 digits-plain (a ∷ l) h =
-    let e : isDigit a ≡ true = and-left (isDigit a) (allDigits l) h in
+    let e : zeroToNine a ≡ true = and-left (zeroToNine a) (allDigits ten l) h in
     let least : 0x30 ≤ a = leb-true 0x30 a (and-left (leb 0x30 a) (leb a 0x39) e) in
-    rw (lt-ltb lineEnd a (omega arith), digits-plain l (and-right (isDigit a) (allDigits l) h))
+    rw (lt-ltb lineEnd a (omega arith), digits-plain l (and-right (zeroToNine a) (allDigits ten l) h))
 
 module _ (b : ℕ) where
   plain-lacks : (l : List ℕ) → b ≤ lineEnd → plain l ≡ true → lacks b l ≡ true

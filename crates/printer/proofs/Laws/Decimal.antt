@@ -1,5 +1,5 @@
 -- A number's digits write that number, and nothing but it: by induction on the digits left, dividing by ten.
-use Prim.Native.Nat.{ℕ, zero, suc, _+_, _-_, _/_, _%_, _^_, _<_, _≤_}
+use Prim.Native.Nat.{ℕ, zero, suc, _+_, _/_, _%_, _^_, _<_, _≤_}
 use mathlib.Core.Path.{_≡_, refl, _∙_, ap}
 use mathlib.Core.Bool.{true, false, cond}
 use mathlib.Core.List.{List, [], _∷_}
@@ -9,8 +9,10 @@ use native.Mathlib.Decide.{decLt}
 use borrow.Author.Tests.{lt-ltb, le-ltb, le-leb, ne-eqb}
 use lib.ListN.{length}
 use lib.Dec.{ltb}
-use Rattle.text.specs.Number.{isDigit, allDigits, leadingZero, isNumber, valueFrom, number}
+use Rattle.text.specs.Number.{ten, zeroToNine, allDigits, leadingZero, valueFrom, decimal, beginsHex, number}
 use Rattle.text.specs.declared.line.Number.the-variants.{Value}
+use Rattle.text.proofs.Forms.{digits-unmarked as unmarked, decimal-kept}
+use Rattle.text.proofs.Laws.Numbers.{written-is}
 use Rattle.printer.specs.Decimal.{digit, digits, digitsBefore}
 
 -- One digit, or one more: what a fact about the digits of n asks for.
@@ -24,27 +26,27 @@ digits-cases P k n later one more = go (decLt n 10)
     go (yes l) = rw (lt-ltb n 10 l) (one l)
     go (no g) = let l : 10 ≤ n = omega arith in rw (le-ltb n 10 l) (more l)
 
-pub value-before : (k n : ℕ) (later : List ℕ) → valueFrom 0 (digitsBefore k n later) ≡ valueFrom n later
+pub value-before : (k n : ℕ) (later : List ℕ) → valueFrom ten 0 (digitsBefore k n later) ≡ valueFrom ten n later
 unfolding valueFrom digitsBefore
-value-before zero n later = ap (λ (m : ℕ). valueFrom m later) (omega arith)
+value-before zero n later = ap (λ (m : ℕ). valueFrom ten m later) (omega arith)
 value-before (suc k) n later =
-    digits-cases (λ l. valueFrom 0 l ≡ valueFrom n later) k n later
-    (λ l. ap (λ (m : ℕ). valueFrom m later) (omega arith))
+    digits-cases (λ l. valueFrom ten 0 l ≡ valueFrom ten n later) k n later
+    (λ l. ap (λ (m : ℕ). valueFrom ten m later) (omega arith))
     (λ l. value-before k (n / 10) (digit (n % 10) ∷ later)
-    ∙ ap (λ (m : ℕ). valueFrom m later) (omega (arith, div-add-mod' n 10)))
+    ∙ ap (λ (m : ℕ). valueFrom ten m later) (omega (arith, div-add-mod' n 10)))
 
 shorter : (k n : ℕ) → n < 10 ^ suc (suc k) → n / 10 < 10 ^ suc k
 shorter k n h = div-lt-iff-lt-mul {k = 10} {x = n} {y = 10 ^ suc k} (omega arith) .1 (rw pow-suc at h)
 
-is-digit : (d : ℕ) → d < 10 → isDigit (digit d) ≡ true
+is-digit : (d : ℕ) → d < 10 → zeroToNine (digit d) ≡ true
 is-digit d l = rw (le-leb 0x30 (0x30 + d) (omega arith), le-leb (0x30 + d) 0x39 (omega arith))
 
-pub digits-all : (k n : ℕ) (later : List ℕ) → n < 10 ^ suc k → allDigits later ≡ true →
-    allDigits (digitsBefore k n later) ≡ true
+pub digits-all : (k n : ℕ) (later : List ℕ) → n < 10 ^ suc k → allDigits ten later ≡ true →
+    allDigits ten (digitsBefore k n later) ≡ true
 unfolding allDigits digitsBefore
 digits-all zero n later h e = rw (is-digit n h, e)
 digits-all (suc k) n later h e =
-    digits-cases (λ l. allDigits l ≡ true) k n later
+    digits-cases (λ l. allDigits ten l ≡ true) k n later
     (λ l. rw (is-digit n l, e))
     (λ l. digits-all k (n / 10) (digit (n % 10) ∷ later) (shorter k n h)
     (rw (is-digit (n % 10) (mod-lt n (omega arith)), e)))
@@ -86,17 +88,19 @@ unfolding digits digitsBefore
 no-zero-leads zero = refl
 no-zero-leads (suc n) = digits-lead 4 (suc n) [] (omega arith)
 
-pub all-digits : (n : ℕ) → n < 100000 → allDigits (digits n) ≡ true
+pub all-digits : (n : ℕ) → n < 100000 → allDigits ten (digits n) ≡ true
 unfolding digits allDigits
 all-digits n h = digits-all 4 n [] h refl
 
+-- Digits do not begin with 0x, and are a decimal number.
+pub digits-unmarked : (n : ℕ) → n < 100000 → beginsHex (digits n) ≡ false
+digits-unmarked n h = unmarked (digits n) (all-digits n h)
+
+digits-decimal : (n : ℕ) → n < 100000 → decimal (digits n) ≡ Value n
+unfolding decimal digits valueFrom
+digits-decimal n h =
+    written-is ten (digitsBefore 4 n []) (some-before 4 n []) (width 4 n (omega arith) h) (all-digits n h) (no-zero-leads n)
+    ∙ rw (value-before 4 n [])
+
 pub digits-number : (n : ℕ) → n < 100000 → number (digits n) ≡ Value n
-unfolding number isNumber digits valueFrom
-digits-number n h =
-    rw (
-      le-leb 1 (length (digitsBefore 4 n [])) (some-before 4 n []),
-      le-leb (length (digitsBefore 4 n [])) 5 (width 4 n (omega arith) h),
-      all-digits n h,
-      no-zero-leads n,
-      value-before 4 n [],
-    )
+digits-number n h = decimal-kept (digits n) (digits-unmarked n h) ∙ digits-decimal n h

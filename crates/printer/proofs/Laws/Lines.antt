@@ -7,8 +7,8 @@ use native.Mathlib.Omega.{arith}
 use lib.ListN.{length}
 use Rattle.text.specs.Cut.{cut, lineEnd, fieldsOf}
 use Rattle.text.specs.Bytes.{same}
-use Rattle.text.specs.Number.{letters}
-use Rattle.text.specs.Lines.{lineOf, linesOf, linesOfPieces, wordOf, segmentLine, partitionLine, rightLine, flowLine, slotLine}
+use Rattle.text.specs.Number.{number, letters}
+use Rattle.text.specs.Lines.{lineOf, lineBy, linesOf, linesBy, linesOfPieces, wordOf, segmentLine, partitionLine, rightLine, flowLine, slotLine}
 use Rattle.text.specs.declared.line.Line.{Line}
 use Rattle.text.specs.declared.line.Line.the-variants.{Bad, Segment, Partition, Right, Flow, Slot}
 use Rattle.text.specs.declared.line.Number.the-variants.{Value}
@@ -75,7 +75,7 @@ fields-plain (Slot partition ticks) h = rw (number-plain partition (h .0), numbe
 
 -- The word and the fields of a line, read back.
 pub line-back : (line : Line) → Printable line → lineOf (wordOfLine line ∷ fieldsOfLine line) ≡ line
-unfolding lineOf wordOf same wordOfLine fieldsOfLine segmentLine partitionLine rightLine flowLine slotLine
+unfolding lineBy wordOf same wordOfLine fieldsOfLine segmentLine partitionLine rightLine flowLine slotLine
 line-back Bad h = absurd h
 line-back (Segment id base size) h = rw (digits-number id (h .0), digits-number base (h .1), digits-number size (h .2))
 line-back (Partition id code save) h = rw (digits-number id (h .0), digits-number code (h .1), digits-number save (h .2))
@@ -84,24 +84,24 @@ line-back (Right partition segment mode) h =
 line-back (Flow from to) h = rw (digits-number from (h .0), digits-number to (h .1))
 line-back (Slot partition ticks) h = rw (digits-number partition (h .0), digits-number ticks (h .1))
 
-pieces-more : (p : List ℕ) (ps : List (List ℕ)) → 0 < length ps → linesOfPieces (p ∷ ps) ≡ lineOf (fieldsOf p) ∷ linesOfPieces ps
+pieces-more : (p : List ℕ) (ps : List (List ℕ)) → 0 < length ps → linesOfPieces number (p ∷ ps) ≡ lineOf (fieldsOf p) ∷ linesOfPieces number ps
 unfolding linesOfPieces
 pieces-more p [] l = absurd (omega arith)
 pieces-more p (q ∷ ps) l = refl
 
 -- The first line of a text comes off.
 text-first : (line : Line) (rest : List ℕ) → Printable line → linesOf (textOfLine line ++ rest) ≡ line ∷ linesOf rest
-unfolding linesOf textOfLine
+unfolding linesBy textOfLine
 text-first line rest h =
     let text = parted (wordOfLine line) (fieldsOfLine line) in
     let lacking = parted-lacks (wordOfLine line) (fieldsOfLine line) (word-plain line) (fields-plain line h) in
     let fields = cut-parted (wordOfLine line) (fieldsOfLine line) (word-plain line) (fields-plain line h) in
-    ap linesOfPieces (ap (cut lineEnd) (append-assoc text (lineEnd ∷ []) rest) ∙ cut-first lineEnd text rest lacking)
+    ap (linesOfPieces number) (ap (cut lineEnd) (append-assoc text (lineEnd ∷ []) rest) ∙ cut-first lineEnd text rest lacking)
     ∙ pieces-more text (cut lineEnd rest) (cut-some lineEnd rest)
-    ∙ ap (_∷ linesOfPieces (cut lineEnd rest)) (ap lineOf fields ∙ line-back line h)
+    ∙ ap (_∷ linesOfPieces number (cut lineEnd rest)) (ap lineOf fields ∙ line-back line h)
 
 -- The lines of a text, read back.
 pub lines-back : (lines : List Line) → All Printable lines → linesOf (textOfLines lines) ≡ lines
-unfolding linesOf textOfLines linesOfPieces cut
+unfolding linesBy textOfLines linesOfPieces cut
 lines-back [] h = refl
 lines-back (line ∷ lines) h = text-first line (textOfLines lines) (h .0) ∙ ap (line ∷_) (lines-back lines (h .1))

@@ -9,7 +9,8 @@ use borrow.Author.Tests.{lt-ltb, le-ltb}
 use lib.Dec.{ltb}
 use lib.ListN.{length, drop, drop-of-length-le}
 use Rattle.text.specs.Cut.{cut, fieldsOf, lineEnd}
-use Rattle.text.specs.Lines.{lineOf, linesOfPieces, linesOf}
+use Rattle.text.specs.Lines.{lineOf, linesOfPieces, linesBy, linesOf}
+use Rattle.text.specs.Number.{number}
 use Rattle.text.specs.Places.{pieceAt, endAt}
 use Rattle.text.specs.declared.line.Line.{Line}
 use Rattle.text.specs.declared.line.Line.the-variants.{Bad}
@@ -18,14 +19,14 @@ use Rattle.text.proofs.Laws.Cut.{cut-at}
 
 -- The lines from a place on.
 unfoldable pub linesFrom : List ℕ → ℕ → List Line
-linesFrom text at = linesOfPieces (cut lineEnd (drop at text))
+linesFrom text at = linesOfPieces number (cut lineEnd (drop at text))
 
 pub lines-all : (text : List ℕ) → linesOf text ≡ linesFrom text 0
-unfolding linesOf linesFrom
+unfolding linesBy linesFrom
 lines-all text = refl
 
 -- A list of pieces is never empty.
-pieces-some : (text : List ℕ) (at : ℕ) (p : List ℕ) → linesOfPieces (p ∷ cut lineEnd (drop at text)) ≡ lineOf (fieldsOf p) ∷ linesFrom text at
+pieces-some : (text : List ℕ) (at : ℕ) (p : List ℕ) → linesOfPieces number (p ∷ cut lineEnd (drop at text)) ≡ lineOf (fieldsOf p) ∷ linesFrom text at
 unfolding linesOfPieces linesFrom
 pieces-some text at p = rw (cut-at lineEnd text at)
 
@@ -35,7 +36,7 @@ module _ (text : List ℕ) (at : ℕ) where
   linesPast = cond (ltb (endAt lineEnd text at) (length text)) (linesFrom text (endAt lineEnd text at + 1)) []
 
   -- A line with no end, which is not empty, is bad.
-  open-bad : (p : List ℕ) → 0 < length p → linesOfPieces (p ∷ []) ≡ Bad ∷ []
+  open-bad : (p : List ℕ) → 0 < length p → linesOfPieces number (p ∷ []) ≡ Bad ∷ []
   unfolding linesOfPieces
   open-bad [] l = absurd (omega arith)
   open-bad (b ∷ bs) l = refl
@@ -46,11 +47,11 @@ module _ (text : List ℕ) (at : ℕ) where
     where
       go : Dec (endAt lineEnd text at < length text) → linesFrom text at ≡ lineAt text at ∷ linesPast
       go (yes e) =
-          ap linesOfPieces (cut-at lineEnd text at ∙ rw (lt-ltb (endAt lineEnd text at) (length text) e))
+          ap (linesOfPieces number) (cut-at lineEnd text at ∙ rw (lt-ltb (endAt lineEnd text at) (length text) e))
           ∙ pieces-some text (endAt lineEnd text at + 1) (pieceAt lineEnd text at)
           ∙ rw (lt-ltb (endAt lineEnd text at) (length text) e)
       go (no e) =
-          ap linesOfPieces (cut-at lineEnd text at ∙ rw (le-ltb (endAt lineEnd text at) (length text) (omega arith)))
+          ap (linesOfPieces number) (cut-at lineEnd text at ∙ rw (le-ltb (endAt lineEnd text at) (length text) (omega arith)))
           ∙ open-bad (pieceAt lineEnd text at) (omega arith)
           ∙ rw (le-ltb (endAt lineEnd text at) (length text) (omega arith))
 

@@ -10,6 +10,7 @@ use lib.Dec.{ltb}
 use lib.ListN.{length}
 use Rattle.text.specs.Cut.{lineEnd, fieldsOf}
 use Rattle.text.specs.Lines.{lineOf, linesOf}
+use Rattle.text.specs.Number.{number}
 use Rattle.text.specs.Places.{pieceAt, endAt}
 use Rattle.text.specs.declared.line.Line.{Line}
 use Rattle.text.specs.declared.line.Line.the-variants.{Bad}
@@ -52,7 +53,7 @@ module _ (text : List ℕ) (policy : Policy) (before : Key) (at n : ℕ) (r : Re
   at-lettered = go (ltb (endAt lineEnd text at) (length text))
     where
       go : (t : Bool) → Lettered (cond t (lineOf (fieldsOf (pieceAt lineEnd text at))) Bad)
-      go true = line-lettered (fieldsOf (pieceAt lineEnd text at))
+      go true = line-lettered number (fieldsOf (pieceAt lineEnd text at))
       go false = tt
 
   pub stops-refused : at < length text → isAccepted (lineRefusal single n (draft policy before) line) ≡ false →

@@ -1,7 +1,7 @@
 -- A text over the limit is refused by 1; any other is read line by line.
 use borrow.Author.Needs.{needs}
 use borrow.Author.Tests.{lt-ltb, le-ltb}
-use Rattle.policy.specs.Read.{readOf}
+use Rattle.policy.specs.Read.{readBy}
 use Rattle.reader.proofs.read.Statement.{statement}
 use Rattle.reader.proofs.read.Tie as tie
 
@@ -9,14 +9,14 @@ refused-requires : tie.Need-refused-requires
 refused-requires c κs = search needs
 
 returns : tie.Need-returns
-unfolding readOf
+unfolding readBy
 returns c = rw (lt-ltb _ _ (c .before .if1 .taken)) (c .refused .ensures)
 
 read-lines-requires : tie.Need-read-lines-requires
 read-lines-requires c κs = search needs
 
 returns-2 : tie.Need-returns-2
-unfolding readOf
+unfolding readBy
 returns-2 c = rw (le-ltb _ _ (c .before .if1 .left)) (c .read-lines .ensures)
 
 pub read-spec : {M : Type 1} → statement M

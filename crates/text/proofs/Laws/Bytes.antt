@@ -1,15 +1,15 @@
 -- Whether two byte strings are the same, one byte more at a time: by the first bytes of what is left of each.
-use Prim.Native.Nat.{ℕ, suc, _+_, _<_, _≤_}
-use mathlib.Core.Path.{_≡_, refl, sym, ap}
+use Prim.Native.Nat.{ℕ, _+_, _<_, _≤_}
+use mathlib.Core.Path.{_≡_, refl, sym}
 use mathlib.Core.Bool.{true, false, true≢false, and-false}
 use mathlib.Core.List.{List, [], _∷_}
 use native.Mathlib.Numerals.{add-one}
 use native.Mathlib.Omega.{arith}
-use borrow.Author.Tests.{eq-eqb, ne-eqb}
+use borrow.Author.Tests.{eq-eqb, ne-eqb, eqb-true}
 use lib.Dec.{eqb}
 use lib.ListN.{length, drop, getD, drop-of-length-le}
 use lib.Seq.{drop-cons}
-use Rattle.text.proofs.Laws.Bools.{and-right}
+use Rattle.text.proofs.Laws.Bools.{and-left, and-right}
 use Rattle.text.specs.Bytes.{same}
 
 pub same-lengths : (a b : List ℕ) → (length a ≡ length b → ⊥) → same a b ≡ false
@@ -34,10 +34,11 @@ module _ (a b : List ℕ) (i : ℕ) where
   unfolding same
   same-end h k = rw (drop-of-length-le a h, drop-of-length-le b k)
 
--- Byte strings that are the same have one length.
-pub same-long : (a b : List ℕ) → same a b ≡ true → length a ≡ length b
+-- Byte strings that are the same are equal.
+pub same-equal : (a b : List ℕ) → same a b ≡ true → a ≡ b
 unfolding same
-same-long [] [] h = refl
-same-long [] (y ∷ b) h = absurd (true≢false (sym h))
-same-long (x ∷ a) [] h = absurd (true≢false (sym h))
-same-long (x ∷ a) (y ∷ b) h = ap suc (same-long a b (and-right (eqb x y) (same a b) h))
+same-equal [] [] h = refl
+same-equal [] (y ∷ b) h = absurd (true≢false (sym h))
+same-equal (x ∷ a) [] h = absurd (true≢false (sym h))
+same-equal (x ∷ a) (y ∷ b) h =
+    rw (eqb-true x y (and-left (eqb x y) (same a b) h), same-equal a b (and-right (eqb x y) (same a b) h))

@@ -1,299 +1,240 @@
--- Digits are neither tab nor line end, so a field goes on where its digits stop, or is just those digits. If it goes on,
--- then with a byte that is no digit, or after five digits: it is no number either way.
-use Prim.Native.Nat.{ℕ, zero, suc, _+_, _-_, _*_, _<_, _≤_}
+-- Digits are neither tab nor line end, so a field goes on where its digits stop, with a byte that is none, or is just
+-- those digits. For every proper notation.
+use Prim.Native.Nat.{ℕ, _+_, _-_, _<_, _≤_}
 use mathlib.Core.Path.{_≡_, refl, sym, _∙_, ap}
-use mathlib.Core.Bool.{Bool, true, false, _&&_, _||_, true≢false, cond, and-false}
+use mathlib.Core.Bool.{Bool, true, false, _||_, cond}
 use mathlib.Core.List.{List, [], _∷_, _++_, append-nil}
-use native.Mathlib.Numerals.{add-one}
-use native.Mathlib.Nat.{add-zero, suc-add, add-suc}
+use native.Mathlib.Nat.{add-zero, add-sub-cancel-left}
 use native.Mathlib.Omega.{arith}
-use native.Mathlib.Decide.{decLt, decLe}
-use borrow.Author.Tests.{le-leb, lt-leb, ltb-true, ltb-false, eqb-true, eqb-false}
-use lib.Dec.{eqb, ltb}
-use lib.ListN.{length, drop, getD, length-append, length-drop, drop-of-length-le}
-use lib.Seq.{drop-cons, drop-drop, getD-drop}
-use Rattle.text.proofs.Laws.Bools.{or-left, or-right, eqb-sum, ltb-sum}
-use Rattle.text.proofs.Laws.Ends.{fieldIn, field-nil, field-tab, field-line, field-more, end-field}
-use Rattle.text.proofs.Laws.Ends.{field-within, after-field}
-use Rattle.text.proofs.Laws.Numbers.{zero-is, number-empty, number-long, number-led, number-other, number-is}
-use Rattle.text.specs.Digits.{digitsIn, digitsRead}
+use native.Mathlib.Decide.{decLt}
+use borrow.Author.Tests.{leb-true, lt-ltb, le-ltb, ne-eqb, eqb-true, eqb-false}
+use lib.Dec.{eqb, leb}
+use lib.ListN.{length, drop, getD, length-append, length-drop}
+use lib.Seq.{getD-drop}
+use Rattle.text.proofs.Laws.Bools.{and-left, and-right}
+use Rattle.text.proofs.Laws.Ends.{fieldIn, field-nil, field-tab, field-line, field-more, field-within}
+use Rattle.text.proofs.Laws.Numbers.{Proper, zero-is, written-empty, written-long, written-led, written-other}
+use Rattle.text.proofs.Laws.Numbers.{written-is, value-fits}
+use Rattle.text.specs.Digits.{digitsIn, digitsRead, parts}
 use Rattle.text.specs.declared.read.Digits.{Digits}
 use Rattle.text.specs.Cut.{tab, lineEnd}
-use Rattle.text.specs.Number.{number, isDigit, allDigits, leadingZero, valueFrom}
-use Rattle.text.specs.Places.{upTo, endAt, fieldAfter}
-use Rattle.text.specs.declared.line.Cursor.{Cursor}
-use Rattle.text.specs.declared.line.Field.{Field}
-use Rattle.text.specs.declared.line.Field.the-variants.{Found, Missing}
+use Rattle.text.specs.Number.{Notation, ten, sixteen, zeroToNine, aToF, written, allDigits, valueFrom}
 use Rattle.text.specs.declared.line.Number.the-variants.{Value, Malformed}
 
--- The digits in front of bytes: digits, at most k of them, and the first of them is the first byte.
-digits-all : (k : ℕ) (l : List ℕ) → allDigits (digitsIn k l) ≡ true
-unfolding digitsIn allDigits
-digits-all zero l = refl
-digits-all (suc k) [] = refl
-digits-all (suc k) (x ∷ l) = go (isDigit x) refl (digits-all k l)
-  where
-    go :
-        (t : Bool) → isDigit x ≡ t → allDigits (digitsIn k l) ≡ true
-        → allDigits (cond t (x ∷ digitsIn k l) []) ≡ true
-    go true e h = rw (e, h)
-    go false e h = refl
+pub nine : (b : ℕ) → zeroToNine b ≡ true → (0x30 ≤ b) × (b ≤ 0x39)
+nine b e =
+    (leb-true 0x30 b (and-left (leb 0x30 b) (leb b 0x39) e), leb-true b 0x39 (and-right (leb 0x30 b) (leb b 0x39) e))
 
-digits-few : (k : ℕ) (l : List ℕ) → length (digitsIn k l) ≤ k
-unfolding digitsIn
-digits-few zero l = omega arith
-digits-few (suc k) [] = omega arith
-digits-few (suc k) (x ∷ l) = go (isDigit x) (digits-few k l)
-  where
-    go : (t : Bool) → length (digitsIn k l) ≤ k → length (cond t (x ∷ digitsIn k l) []) ≤ suc k
-    go true h = omega arith
-    go false h = omega arith
+letter : (b : ℕ) → aToF b ≡ true → (0x61 ≤ b) × (b ≤ 0x66)
+letter b e =
+    (leb-true 0x61 b (and-left (leb 0x61 b) (leb b 0x66) e), leb-true b 0x66 (and-right (leb 0x61 b) (leb b 0x66) e))
 
-digits-first : (k : ℕ) (l : List ℕ) → 0 < length (digitsIn k l) → getD (digitsIn k l) 0 0 ≡ getD l 0 0
-unfolding digitsIn
-digits-first zero l h = absurd (omega arith)
-digits-first (suc k) [] h = refl
-digits-first (suc k) (x ∷ l) h = go (isDigit x) h
-  where
-    go : (t : Bool) → (let d = cond t (x ∷ digitsIn k l) [] in 0 < length d → getD d 0 0 ≡ x)
-    go true h = refl
-    go false h = absurd (omega arith)
+pub proper-ten : Proper ten
+proper-ten =
+    record {
+      above = λ b e. omega (arith, nine b e);
+      small = λ b e. omega (arith, nine b e);
+      some = omega arith;
+      one = omega arith;
+      fits = omega arith;
+    }
 
--- A digit goes on with the field.
-is-digit : (x : ℕ) (l : List ℕ) → isDigit x ≡ true → fieldIn (x ∷ l) ≡ x ∷ fieldIn l
-is-digit x l e = go (decLe 0x30 x)
+-- A hexadecimal digit by its two kinds.
+hex-cases : (b : ℕ) (P : Bool → Type 0) → (zeroToNine b ≡ true → P true) → (aToF b ≡ true → P false)
+    → sixteen .isDigit b ≡ true → P (zeroToNine b)
+hex-cases b P one other = go (zeroToNine b) refl
   where
-    go : Dec (0x30 ≤ x) → fieldIn (x ∷ l) ≡ x ∷ fieldIn l
-    go (yes h) = field-more x l (λ q. omega arith) (λ q. omega arith)
-    go (no h) = absurd (true≢false (sym e ∙ rw (lt-leb 0x30 x (omega arith))))
+    go : (t : Bool) → zeroToNine b ≡ t → t || aToF b ≡ true → P t
+    go true e h = one e
+    go false e h = other h
+
+pub proper-sixteen : Proper sixteen
+proper-sixteen =
+    record {
+      above = λ b. hex-cases b (λ t. lineEnd < b) (λ e. omega (arith, nine b e)) (λ e. omega (arith, letter b e));
+      small =
+          λ b.
+          hex-cases b (λ t. cond t (b - 0x30) (10 + (b - 0x61)) < 16) (λ e. omega (arith, nine b e))
+          (λ e. omega (arith, letter b e));
+      some = omega arith;
+      one = omega arith;
+      fits = omega arith;
+    }
+
+-- The digits in front of bytes: digits, and the first of them is the first byte.
+module _ (form : Notation) where
+  digits-all : (l : List ℕ) → allDigits form (digitsIn form l) ≡ true
+  unfolding digitsIn allDigits
+  digits-all [] = refl
+  digits-all (x ∷ l) = go (form .isDigit x) refl (digits-all l)
+    where
+      go :
+          (t : Bool) → form .isDigit x ≡ t → allDigits form (digitsIn form l) ≡ true
+          → allDigits form (cond t (x ∷ digitsIn form l) []) ≡ true
+      go true e h = rw (e, h)
+      go false e h = refl
+
+  digits-first : (l : List ℕ) → 0 < length (digitsIn form l) → getD (digitsIn form l) 0 0 ≡ getD l 0 0
+  unfolding digitsIn
+  digits-first [] h = refl
+  digits-first (x ∷ l) h = go (form .isDigit x) h
+    where
+      go : (t : Bool) → (let d = cond t (x ∷ digitsIn form l) [] in 0 < length d → getD d 0 0 ≡ x)
+      go true h = refl
+      go false h = absurd (omega arith)
 
 -- A field that is not empty begins with the first byte.
 not-empty : (x : ℕ) (l : List ℕ) → 0 < length (fieldIn (x ∷ l)) → fieldIn (x ∷ l) ≡ x ∷ fieldIn l
 not-empty x l h =
     field-more x l (λ e. omega (arith, ap length (field-tab x l e))) (λ e. omega (arith, ap length (field-line x l e)))
 
--- The field is its digits, and what stands from there to its end.
-digits-field : (k : ℕ) (l : List ℕ) → fieldIn l ≡ digitsIn k l ++ fieldIn (drop (length (digitsIn k l)) l)
-unfolding digitsIn
-digits-field zero l = refl
-digits-field (suc k) [] = refl
-digits-field (suc k) (x ∷ l) = go (isDigit x) refl (digits-field k l)
+-- It is empty just if a separator stands there, or nothing.
+parts-is : (l : List ℕ) → parts (getD l 0 lineEnd) ≡ eqb (length (fieldIn l)) 0
+parts-is [] = rw field-nil
+parts-is (x ∷ l) = go (eqb x tab) refl (eqb x lineEnd) refl
   where
-    go :
-        (t : Bool) → isDigit x ≡ t → fieldIn l ≡ digitsIn k l ++ fieldIn (drop (length (digitsIn k l)) l)
-        → (let d = cond t (x ∷ digitsIn k l) [] in fieldIn (x ∷ l) ≡ d ++ fieldIn (drop (length d) (x ∷ l)))
-    go true e h = is-digit x l e ∙ ap (λ f. x ∷ f) h
-    go false e h = refl
+    go : (t : Bool) → eqb x tab ≡ t → (u : Bool) → eqb x lineEnd ≡ u → t || u ≡ eqb (length (fieldIn (x ∷ l))) 0
+    go true e u f = rw (field-tab x l (eqb-true x tab e))
+    go false e true f = rw (field-line x l (eqb-true x lineEnd f))
+    go false e false f =
+        sym (ne-eqb (length (fieldIn (x ∷ l))) 0
+        (λ q. omega (arith, ap length (field-more x l (eqb-false x tab e) (eqb-false x lineEnd f)))))
 
--- What stands there is no digit, if there are k digits at most.
-goes-on :
-    (k : ℕ) (l : List ℕ) → 0 < length (fieldIn (drop (length (digitsIn k l)) l)) → length (fieldIn l) ≤ k
-    → allDigits (fieldIn l) ≡ false
-unfolding digitsIn allDigits
-goes-on zero l h m = absurd (omega arith)
-goes-on (suc k) [] h m = absurd (omega (arith, ap length field-nil))
-goes-on (suc k) (x ∷ l) h m = go (isDigit x) refl (goes-on k l) h
-  where
-    go :
-        (t : Bool) → isDigit x ≡ t
-        → (0 < length (fieldIn (drop (length (digitsIn k l)) l)) → length (fieldIn l) ≤ k → allDigits (fieldIn l) ≡ false)
-        → (let d = cond t (x ∷ digitsIn k l) [] in 0 < length (fieldIn (drop (length d) (x ∷ l))))
-        → allDigits (fieldIn (x ∷ l)) ≡ false
-    go true e more h = rw (is-digit x l e, e) (more h (omega (arith, ap length (is-digit x l e))))
-    go false e more h = rw (not-empty x l h, e)
+module _ (form : Notation) (p : Proper form) where
+  -- A digit goes on with the field.
+  is-digit : (x : ℕ) (l : List ℕ) → form .isDigit x ≡ true → fieldIn (x ∷ l) ≡ x ∷ fieldIn l
+  is-digit x l e = let h = p .above x e in field-more x l (λ q. omega arith) (λ q. omega arith)
 
-module _ (l : List ℕ) where
-  abbrev digits : List ℕ
-  digits = digitsIn 5 l
-
-  abbrev left : List ℕ
-  left = fieldIn (drop (length digits) l)
-
-  number-goes-on : 0 < length left → number (fieldIn l) ≡ Malformed
-  number-goes-on h = go (decLe (length (fieldIn l)) 5)
+  -- The field is its digits, and what stands from there to its end.
+  digits-field : (l : List ℕ) → fieldIn l ≡ digitsIn form l ++ fieldIn (drop (length (digitsIn form l)) l)
+  unfolding digitsIn
+  digits-field [] = refl
+  digits-field (x ∷ l) = go (form .isDigit x) refl (digits-field l)
     where
-      go : Dec (length (fieldIn l) ≤ 5) → number (fieldIn l) ≡ Malformed
-      go (yes m) = number-other (fieldIn l) (goes-on 5 l h m)
-      go (no m) = number-long (fieldIn l) (omega arith)
+      go :
+          (t : Bool) → form .isDigit x ≡ t
+          → fieldIn l ≡ digitsIn form l ++ fieldIn (drop (length (digitsIn form l)) l)
+          → (let d = cond t (x ∷ digitsIn form l) [] in fieldIn (x ∷ l) ≡ d ++ fieldIn (drop (length d) (x ∷ l)))
+      go true e h = is-digit x l e ∙ ap (λ f. x ∷ f) h
+      go false e h = refl
 
-  whole : length left ≡ 0 → fieldIn l ≡ digits
-  whole e = go left (digits-field 5 l) e
+  -- What stands there is no digit.
+  goes-on : (l : List ℕ) → 0 < length (fieldIn (drop (length (digitsIn form l)) l)) → allDigits form (fieldIn l) ≡ false
+  unfolding digitsIn allDigits
+  goes-on [] h = absurd (omega (arith, ap length field-nil))
+  goes-on (x ∷ l) h = go (form .isDigit x) refl (goes-on l) h
     where
-      go : (m : List ℕ) → fieldIn l ≡ digits ++ m → length m ≡ 0 → fieldIn l ≡ digits
-      go [] q e = q ∙ append-nil digits
-      go (x ∷ m) q e = absurd (omega arith)
+      go :
+          (t : Bool) → form .isDigit x ≡ t
+          → (0 < length (fieldIn (drop (length (digitsIn form l)) l)) → allDigits form (fieldIn l) ≡ false)
+          → (let d = cond t (x ∷ digitsIn form l) [] in 0 < length (fieldIn (drop (length d) (x ∷ l))))
+          → allDigits form (fieldIn (x ∷ l)) ≡ false
+      go true e more h = rw (is-digit x l e, e) (more h)
+      go false e more h = rw (not-empty x l h, e)
 
-  number-none : length digits ≡ 0 → number (fieldIn l) ≡ Malformed
-  number-none e = go (decLt 0 (length left))
-    where
-      go : Dec (0 < length left) → number (fieldIn l) ≡ Malformed
-      go (yes h) = number-goes-on h
-      go (no h) = number-empty (fieldIn l) (omega (arith, ap length (whole (omega arith))))
+  -- The digits at a place, and how far the field goes on after them.
+  module _ (text : List ℕ) (from : ℕ) {d : Digits} (e : d ≡ digitsRead form text from) where
+    abbrev ahead : List ℕ
+    ahead = drop from text
 
-  module _ (h : 1 ≤ length digits) where
-    -- A zero leads that another digit follows.
-    led-is : leadingZero digits ≡ eqb (getD l 0 0) 0x30 && ltb 1 (length digits)
-    led-is = zero-is digits h ∙ rw (digits-first 5 l (omega arith))
+    abbrev digits : List ℕ
+    digits = digitsIn form ahead
 
-    number-whole : length left ≡ 0 → leadingZero digits ≡ false → number (fieldIn l) ≡ Value (valueFrom 0 digits)
-    number-whole e z = rw (whole e) (number-is digits h (digits-few 5 l) (digits-all 5 l) z)
+    abbrev left : List ℕ
+    left = fieldIn (drop (length digits) ahead)
 
--- The digits at a place, and how far the field goes on after them.
-module _ (text : List ℕ) (from : ℕ) {d : Digits} (e : d ≡ digitsRead text from) where
-  abbrev ahead : List ℕ
-  ahead = drop from text
+    end-is : d .end ≡ from + length digits
+    unfolding digitsRead
+    end-is = ap (λ r. r .end) e
 
-  value-is : d .value ≡ valueFrom 0 (digits ahead)
-  unfolding digitsRead
-  value-is = ap (λ r. r .value) e
+    count-is : d .end - from ≡ length digits
+    count-is = rw (end-is, add-sub-cancel-left)
 
-  end-is : d .end ≡ from + length (digits ahead)
-  unfolding digitsRead
-  end-is = ap (λ r. r .end) e
+    ended-is : parts (d .stop) ≡ eqb (length left) 0
+    unfolding digitsRead
+    ended-is =
+        let first : getD (drop (length digits) ahead) 0 lineEnd ≡ d .stop =
+        getD-drop (length digits) ahead 0 lineEnd
+        ∙ ap (λ (k : ℕ). getD ahead k lineEnd) (add-zero (length digits))
+        ∙ sym (ap (λ r. r .stop) e) in
+        ap parts (sym first) ∙ parts-is (drop (length digits) ahead)
 
-  left-is : endAt tab (upTo text (d .end)) (d .end) ≡ d .end + length (left ahead)
-  left-is =
-      let q : drop (d .end) text ≡ drop (length (digits ahead)) ahead =
-      ap (λ (k : ℕ). drop k text) end-is ∙ sym (drop-drop (length (digits ahead)) from text) in
-      end-field text (d .end) ∙ ap (λ l. d .end + length (fieldIn l)) q
+    pub digits-least : from ≤ d .end
+    digits-least = omega (arith, end-is)
 
-  module _ (n : d .end ≡ from → ⊥) where
-    some : 1 ≤ length (digits ahead)
-    some = go (decLt 0 (length (digits ahead)))
-      where
-        go : Dec (0 < length (digits ahead)) → 1 ≤ length (digits ahead)
-        go (yes h) = omega arith
-        go (no h) = absurd (n (end-is ∙ omega arith))
-
-    -- A first digit stands in the text.
-    pub some-inside : from < length text
-    some-inside =
+    pub digits-within : from ≤ length text → d .end ≤ length text
+    digits-within h =
         omega (
           arith,
-          some,
-          ap length (digits-field 5 ahead) ∙ length-append (digits ahead) (left ahead),
+          end-is,
+          ap length (digits-field ahead) ∙ length-append digits left,
           field-within ahead,
           length-drop from text,
         )
 
--- The number after a place, by its digits and by whether the field ends after them.
-module _
-    (text : List ℕ) (c : Cursor) {d : Digits} (inside : c .at < length text) (o : getD text (c .at) 0 ≡ lineEnd → ⊥)
-    (e : d ≡ digitsRead text (c .at + 1)) where
-  abbrev from : ℕ
-  from = c .at + 1
+    pub open-written : parts (d .stop) ≡ false → written form (fieldIn ahead) ≡ Malformed
+    open-written f =
+        let some = eqb-false (length left) 0 (sym ended-is ∙ f) in
+        written-other form (fieldIn ahead) (goes-on ahead (omega arith))
 
-  abbrev rest : List ℕ
-  rest = ahead text from e
+    -- The field ends after them.
+    module _ (f : parts (d .stop) ≡ true) where
+      whole : fieldIn ahead ≡ digits
+      whole = go left (digits-field ahead) (eqb-true (length left) 0 (sym ended-is ∙ f))
+        where
+          go : (m : List ℕ) → fieldIn ahead ≡ digits ++ m → length m ≡ 0 → fieldIn ahead ≡ digits
+          go [] q e = q ∙ append-nil digits
+          go (x ∷ m) q e = absurd (omega arith)
 
-  abbrev said : Field
-  said = fieldAfter number (upTo text (c .at)) c
+      pub ended-end : from + length (fieldIn ahead) ≡ d .end
+      ended-end = rw (whole, end-is)
 
-  said-none : number (fieldIn rest) ≡ Malformed → said ≡ Missing
-  said-none q = after-field number text c inside o ∙ rw q
+      pub none-written : d .end ≡ from → written form (fieldIn ahead) ≡ Malformed
+      none-written q = written-empty form (fieldIn ahead) (omega (arith, ended-end))
 
-  byte-is : getD rest 0 0 ≡ getD text from 0
-  byte-is = getD-drop from text 0 0 ∙ ap (λ (k : ℕ). getD text k 0) (add-zero from)
+      -- One digit if it is 0, and else as many as there may be.
+      module _ (n : d .end ≡ from → ⊥) {room : ℕ} (r : room ≡ cond (eqb (getD text from 0) 0x30) 1 (form .most)) where
+        some : 1 ≤ length digits
+        some = go (decLt 0 (length digits))
+          where
+            go : Dec (0 < length digits) → 1 ≤ length digits
+            go (yes h) = h
+            go (no h) = absurd (n (end-is ∙ omega arith))
 
-  pub no-digit : d .end ≡ from → said ≡ Missing
-  no-digit q = said-none (number-none rest (omega (arith, end-is text from e)))
+        led-is : (t : Bool) → eqb (getD text from 0) 0x30 ≡ t → eqb (getD digits 0 0) 0x30 ≡ t
+        led-is t q =
+            ap (λ (b : ℕ). eqb b 0x30)
+            (digits-first form ahead some ∙ getD-drop from text 0 0 ∙ ap (λ (k : ℕ). getD text k 0) (add-zero from))
+            ∙ q
 
-  -- Some digits; whether a zero leads them, and whether the field ends after them.
-  module _ (n : d .end ≡ from → ⊥) {t : Bool} (q : t ≡ eqb (endAt tab (upTo text (d .end)) (d .end)) (d .end)) where
-    abbrev led : Bool
-    led = eqb (getD text from 0) 0x30 && ltb (from + 1) (d .end)
+        pub over-written : room < d .end - from → written form (fieldIn ahead) ≡ Malformed
+        over-written h = rw whole (go (eqb (getD text from 0) 0x30) refl r)
+          where
+            go :
+                (t : Bool) → eqb (getD text from 0) 0x30 ≡ t → room ≡ cond t 1 (form .most)
+                → written form digits ≡ Malformed
+            go true q k =
+                written-led form digits
+                (zero-is digits some ∙ rw (led-is true q, lt-ltb 1 (length digits) (omega (arith, count-is))))
+            go false q k = written-long form digits (omega (arith, count-is))
 
-    led-there : led ≡ leadingZero (digits rest)
-    led-there =
-        let more : ltb (from + 1) (d .end) ≡ ltb 1 (length (digits rest)) =
-        rw (end-is text from e) (ltb-sum from 1 (length (digits rest))) in
-        sym (led-is rest (some text from e n) ∙ rw (byte-is, ← more))
+        pub fit-written : d .end - from ≤ room → written form (fieldIn ahead) ≡ Value (d .value)
+        unfolding digitsRead
+        fit-written h = rw whole (go (eqb (getD text from 0) 0x30) refl r)
+          where
+            value : length digits ≤ form .most → Value (valueFrom form 0 digits) ≡ Value (d .value)
+            value m =
+                ap Value (sym (value-fits form p digits (digits-all form ahead) m) ∙ sym (ap (λ r. r .value) e))
 
-    ended-is : t ≡ eqb (length (left rest)) 0
-    ended-is = q ∙ rw (left-is text from e) (eqb-sum (d .end) (length (left rest)))
-
-    pub not-ended : t ≡ false → said ≡ Missing
-    not-ended f = said-none (number-goes-on rest (omega (arith, eqb-false (length (left rest)) 0 (sym ended-is ∙ f))))
-
-    module _ (f : t ≡ true) where
-      ended : length (left rest) ≡ 0
-      ended = eqb-true (length (left rest)) 0 (sym ended-is ∙ f)
-
-      pub zero-led : led ≡ true → said ≡ Missing
-      zero-led z = said-none (rw (whole rest ended) (number-led (digits rest) (sym led-there ∙ z)))
-
-      pub number-there : led ≡ false → Found (d .value) (record { at = d .end; line = c .line }) ≡ said
-      number-there z =
-          let is = number-whole rest (some text from e n) ended (sym led-there ∙ z) in
-          rw (value-is text from e, end-is text from e)
-          (sym (after-field number text c inside o ∙ rw (is, whole rest ended)))
-
--- The digits from a place on, after some that wrote v.
-unfoldable pub digitsOn : ℕ → ℕ → ℕ → List ℕ → Digits
-digitsOn k v i l = let d = digitsIn k l in record { value = valueFrom v d; end = i + length d }
-
-pub on-begin : (text : List ℕ) (from : ℕ) → digitsRead text from ≡ digitsOn (from + 5 - from) 0 from (drop from text)
-unfolding digitsRead digitsOn
-on-begin text from = let q : from + 5 - from ≡ 5 = omega arith in rw q
-
-module _ (text : List ℕ) (k v i : ℕ) where
-  abbrev stops : Type 0
-  stops = digitsOn k v i (drop i text) ≡ record { value = v; end = i }
-
-  pub on-past : length text ≤ i → stops
-  unfolding digitsOn digitsIn valueFrom
-  on-past h = rw (drop-of-length-le text h) (go k)
-    where
-      go : (k : ℕ) → digitsOn k v i [] ≡ record { value = v; end = i }
-      go zero = rw add-zero
-      go (suc k) = rw add-zero
-
-  pub on-five : k ≡ 0 → stops
-  unfolding digitsOn digitsIn valueFrom
-  on-five e = rw (e, add-zero)
-
-  pub on-more :
-      i < length text → 0x30 ≤ getD text i 0 → getD text i 0 ≤ 0x39 → 0 < k
-      → digitsOn k v i (drop i text) ≡ digitsOn (k - 1) (v * 10 + (getD text i 0 - 0x30)) (i + 1) (drop (i + 1) text)
-  unfolding digitsOn digitsIn valueFrom
-  on-more h a b p = rw (drop-cons text i 0 h, add-one i) (go k p)
-    where
-      x : ℕ
-      x = getD text i 0
-
-      go :
-          (k : ℕ) → 0 < k
-          → digitsOn k v i (x ∷ drop (suc i) text) ≡ digitsOn (k - 1) (v * 10 + (x - 0x30)) (suc i) (drop (suc i) text)
-      go zero p = absurd (omega arith)
-      go (suc k) p = let q : suc k - 1 ≡ k = omega arith in rw (q, le-leb 0x30 x a, le-leb x 0x39 b, suc-add, add-suc)
-
--- The digits stop at a byte that is none.
-module _ (text : List ℕ) (i : ℕ) where
-  abbrev byte : ℕ
-  byte = getD text i 0
-
-  abbrev none : Bool
-  none = ltb byte 0x30 || ltb 0x39 byte
-
-  pub digit-known : none ≡ false → (0x30 ≤ byte) × (byte ≤ 0x39)
-  digit-known e = (
-    ltb-false byte 0x30 (or-left (ltb byte 0x30) (ltb 0x39 byte) e),
-    ltb-false 0x39 byte (or-right (ltb byte 0x30) (ltb 0x39 byte) e),
-  )
-
-  no-digit-is : none ≡ true → isDigit byte ≡ false
-  no-digit-is = go (ltb byte 0x30) refl (ltb 0x39 byte) refl
-    where
-      go :
-          (t : Bool) → ltb byte 0x30 ≡ t → (u : Bool) → ltb 0x39 byte ≡ u → t || u ≡ true → isDigit byte ≡ false
-      go true e u f h = rw (lt-leb 0x30 byte (ltb-true byte 0x30 e))
-      go false e true f h = rw (lt-leb byte 0x39 (ltb-true 0x39 byte f), and-false)
-      go false e false f h = absurd (true≢false (sym h))
-
-  pub on-other : (k v : ℕ) → i < length text → none ≡ true → stops text k v i
-  unfolding digitsOn digitsIn valueFrom
-  on-other k v h e = rw (drop-cons text i 0 h) (go k)
-    where
-      go : (k : ℕ) → digitsOn k v i (byte ∷ drop (suc i) text) ≡ record { value = v; end = i }
-      go zero = rw add-zero
-      go (suc k) = rw (no-digit-is e, add-zero)
+            go :
+                (t : Bool) → eqb (getD text from 0) 0x30 ≡ t → room ≡ cond t 1 (form .most)
+                → written form digits ≡ Value (d .value)
+            go true q k =
+                let m : length digits ≤ form .most = omega (arith, count-is, p .one) in
+                written-is form digits some m (digits-all form ahead)
+                (zero-is digits some ∙ rw (led-is true q, le-ltb 1 (length digits) (omega (arith, count-is))))
+                ∙ value m
+            go false q k =
+                let m : length digits ≤ form .most = omega (arith, count-is) in
+                written-is form digits some m (digits-all form ahead) (zero-is digits some ∙ rw (led-is false q))
+                ∙ value m

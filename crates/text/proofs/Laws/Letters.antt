@@ -6,8 +6,8 @@ use mathlib.Core.List.{List, [], _∷_}
 use native.Mathlib.Omega.{arith}
 use Rattle.text.specs.Bytes.{bytesOf, same}
 use Rattle.text.specs.Cut.{cut, fieldsOf, lineEnd}
-use Rattle.text.specs.Number.{number, letters}
-use Rattle.text.specs.Lines.{given, nextField, last, segmentLine, partitionLine, rightLine, flowLine, slotLine, wordOf, lineOfKind, lineOf, linesOfPieces, linesOf}
+use Rattle.text.specs.Number.{letters}
+use Rattle.text.specs.Lines.{given, nextField, last, segmentLine, partitionLine, rightLine, flowLine, slotLine, wordOf, lineOfKind, lineBy, linesOfPieces, linesBy}
 use Rattle.text.specs.declared.line.Number.{Number}
 use Rattle.text.specs.declared.line.Number.the-variants.{Value, Malformed}
 use Rattle.text.specs.declared.line.Kind.{Kind}
@@ -52,57 +52,59 @@ last-lettered : (fs : List (List ℕ)) (line : Line) → Lettered line → Lette
 last-lettered [] line h = h
 last-lettered (f ∷ fs) line h = tt
 
-number-lettered : (fs : List (List ℕ)) (more : ℕ → List (List ℕ) → Line) →
-    ((n : ℕ) (fs : List (List ℕ)) → Lettered (more n fs)) → Lettered (nextField number fs more)
-number-lettered fs more h = next-lettered number (λ n. Unit) (λ f n e. tt) fs more (λ n u fs. h n fs)
+-- The lines that any reader of numbers gives.
+module _ (read : List ℕ → Number) where
+  number-lettered : (fs : List (List ℕ)) (more : ℕ → List (List ℕ) → Line) →
+      ((n : ℕ) (fs : List (List ℕ)) → Lettered (more n fs)) → Lettered (nextField read fs more)
+  number-lettered fs more h = next-lettered read (λ n. Unit) (λ f n e. tt) fs more (λ n u fs. h n fs)
 
-module _ (fs : List (List ℕ)) where
-  segment-lettered : Lettered (segmentLine fs)
-  unfolding segmentLine
-  segment-lettered =
-      number-lettered fs _ λ id fs. number-lettered fs _ λ base fs. number-lettered fs _ λ size fs.
-      last-lettered fs (Segment id base size) tt
+  module _ (fs : List (List ℕ)) where
+    segment-lettered : Lettered (segmentLine read fs)
+    unfolding segmentLine
+    segment-lettered =
+        number-lettered fs _ λ id fs. number-lettered fs _ λ base fs. number-lettered fs _ λ size fs.
+        last-lettered fs (Segment id base size) tt
 
-  partition-lettered : Lettered (partitionLine fs)
-  unfolding partitionLine
-  partition-lettered =
-      number-lettered fs _ λ id fs. number-lettered fs _ λ code fs. number-lettered fs _ λ save fs.
-      last-lettered fs (Partition id code save) tt
+    partition-lettered : Lettered (partitionLine read fs)
+    unfolding partitionLine
+    partition-lettered =
+        number-lettered fs _ λ id fs. number-lettered fs _ λ code fs. number-lettered fs _ λ save fs.
+        last-lettered fs (Partition id code save) tt
 
-  right-lettered : Lettered (rightLine fs)
-  unfolding rightLine
-  right-lettered =
-      number-lettered fs _ λ partition fs. number-lettered fs _ λ segment fs.
-      next-lettered letters (λ n. n ≤ 3) letters-few fs _ λ mode few fs. last-lettered fs (Right partition segment mode) few
+    right-lettered : Lettered (rightLine read fs)
+    unfolding rightLine
+    right-lettered =
+        number-lettered fs _ λ partition fs. number-lettered fs _ λ segment fs.
+        next-lettered letters (λ n. n ≤ 3) letters-few fs _ λ mode few fs. last-lettered fs (Right partition segment mode) few
 
-  flow-lettered : Lettered (flowLine fs)
-  unfolding flowLine
-  flow-lettered = number-lettered fs _ λ from fs. number-lettered fs _ λ to fs. last-lettered fs (Flow from to) tt
+    flow-lettered : Lettered (flowLine read fs)
+    unfolding flowLine
+    flow-lettered = number-lettered fs _ λ from fs. number-lettered fs _ λ to fs. last-lettered fs (Flow from to) tt
 
-  slot-lettered : Lettered (slotLine fs)
-  unfolding slotLine
-  slot-lettered = number-lettered fs _ λ partition fs. number-lettered fs _ λ ticks fs. last-lettered fs (Slot partition ticks) tt
+    slot-lettered : Lettered (slotLine read fs)
+    unfolding slotLine
+    slot-lettered = number-lettered fs _ λ partition fs. number-lettered fs _ λ ticks fs. last-lettered fs (Slot partition ticks) tt
 
-kind-lettered : (kind : Kind) (fs : List (List ℕ)) → Lettered (lineOfKind kind fs)
-kind-lettered OfSegment fs = segment-lettered fs
-kind-lettered OfPartition fs = partition-lettered fs
-kind-lettered OfRight fs = right-lettered fs
-kind-lettered OfFlow fs = flow-lettered fs
-kind-lettered OfSlot fs = slot-lettered fs
-kind-lettered Unknown fs = tt
+  kind-lettered : (kind : Kind) (fs : List (List ℕ)) → Lettered (lineOfKind read kind fs)
+  kind-lettered OfSegment fs = segment-lettered fs
+  kind-lettered OfPartition fs = partition-lettered fs
+  kind-lettered OfRight fs = right-lettered fs
+  kind-lettered OfFlow fs = flow-lettered fs
+  kind-lettered OfSlot fs = slot-lettered fs
+  kind-lettered Unknown fs = tt
 
-pub line-lettered : (fs : List (List ℕ)) → Lettered (lineOf fs)
-unfolding lineOf
-line-lettered [] = tt
-line-lettered (word ∷ fs) = kind-lettered (wordOf word) fs
+  pub line-lettered : (fs : List (List ℕ)) → Lettered (lineBy read fs)
+  unfolding lineBy
+  line-lettered [] = tt
+  line-lettered (word ∷ fs) = kind-lettered (wordOf word) fs
 
-pieces-lettered : (ps : List (List ℕ)) → AllLettered (linesOfPieces ps)
-unfolding linesOfPieces
-pieces-lettered [] = tt
-pieces-lettered ([] ∷ []) = tt
-pieces-lettered ((b ∷ bs) ∷ []) = (tt, tt)
-pieces-lettered (p ∷ q ∷ ps) = (line-lettered (fieldsOf p), pieces-lettered (q ∷ ps))
+  pieces-lettered : (ps : List (List ℕ)) → AllLettered (linesOfPieces read ps)
+  unfolding linesOfPieces
+  pieces-lettered [] = tt
+  pieces-lettered ([] ∷ []) = tt
+  pieces-lettered ((b ∷ bs) ∷ []) = (tt, tt)
+  pieces-lettered (p ∷ q ∷ ps) = (line-lettered (fieldsOf p), pieces-lettered (q ∷ ps))
 
-pub lines-lettered : (text : List ℕ) → AllLettered (linesOf text)
-unfolding linesOf
-lines-lettered text = pieces-lettered (cut lineEnd text)
+  pub lines-lettered : (text : List ℕ) → AllLettered (linesBy read text)
+  unfolding linesBy
+  lines-lettered text = pieces-lettered (cut lineEnd text)

@@ -21,7 +21,8 @@ use Rattle.text.specs.Readers.{fieldsRead, lineAt, lineRead}
 use Rattle.text.specs.Said.{fieldsSay}
 use Rattle.text.specs.declared.read.FieldsRead.{FieldsRead}
 use Rattle.text.specs.Cut.{fieldsOf, lineEnd}
-use Rattle.text.specs.Lines.{lineOf, lineOfKind}
+use Rattle.text.specs.Lines.{lineOf, lineBy, lineOfKind}
+use Rattle.text.specs.Number.{number}
 use Rattle.text.specs.Places.{upTo, pieceAt, endAt, fieldsAfter}
 use Rattle.text.specs.declared.line.Cursor.{Cursor}
 use Rattle.text.specs.declared.line.Line.{Line}
@@ -87,9 +88,9 @@ module _ (text : List ℕ) (at n : ℕ) (h : at ≤ length text) where
           rw (ended l (omega (arith, last-byte)), line-long, le-ltb (place .at) end (omega arith))
 
   kind-says :
-      lineOfKind (wordAt line from) (fieldsAfter line (pastWord line from .at))
+      lineOfKind number (wordAt line from) (fieldsAfter line (pastWord line from .at))
       ≡ lineOf (fieldsOf (pieceAt lineEnd text at))
-  unfolding wordRead lineOf
+  unfolding wordRead lineBy
   kind-says = rw (← line-part, fields-at line at)
 
   -- What the readers found says what the line says.

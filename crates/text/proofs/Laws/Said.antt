@@ -9,6 +9,8 @@ use native.Mathlib.Decide.{decLe, decLt}
 use borrow.Author.Tests.{lt-ltb, le-ltb, lt-leb, ne-eqb}
 use lib.Dec.{ltb}
 use lib.ListN.{length}
+use Rattle.text.proofs.Forms.{decimal-kept}
+use Rattle.text.proofs.Laws.Numbers.{written-other}
 use Rattle.text.proofs.Laws.Fields.{next-found, next-missing, last-none, last-some}
 use Rattle.text.proofs.Laws.Forward.{no-value}
 use Rattle.text.specs.Readers.{takenFrom, numberRead, lettersRead, numberAt, pastNumber, lettersAt, pastLetters}
@@ -16,7 +18,7 @@ use Rattle.text.specs.Said.{twoSay, threeSay, rightSays, restSays, numbe
 use Rattle.text.specs.Bytes.{same}
 use Rattle.text.specs.Cut.{tab}
 use Rattle.text.specs.Lines.{given, nextField, last, segmentLine, partitionLine, rightLine, flowLine, slotLine, lineOfKind}
-use Rattle.text.specs.Number.{number, letters, isNumber, allDigits}
+use Rattle.text.specs.Number.{ten, number, letters, decimal, beginsHex, allDigits}
 use Rattle.text.specs.Places.{pieceAt, fieldsAfter, fieldAfter}
 use Rattle.text.specs.declared.line.Cursor.{Cursor}
 use Rattle.text.specs.declared.line.Field.{Field}
@@ -31,9 +33,9 @@ use Rattle.text.specs.declared.line.Number.the-variants.{Value, Malforme
 no-field : {n : ℕ} {d : Cursor} → Missing ≡ Found n d → ⊥
 no-field e = let z : _≡_ {A = ℕ} 0 1 = cc in absurd (omega arith)
 
--- r and w are above the digits.
+-- r and w are above the decimal digits, so they begin neither a decimal number nor 0x.
 no-number : (l : List ℕ) (m : ℕ) → letters l ≡ Value m → number l ≡ Malformed
-unfolding letters number isNumber allDigits same
+unfolding letters decimal beginsHex allDigits same
 no-number [] m e = absurd (no-value e)
 no-number (x ∷ l) m e = go (decLe x 0x39)
   where
@@ -42,7 +44,9 @@ no-number (x ∷ l) m e = go (decLe x 0x39)
 
     go : Dec (x ≤ 0x39) → number (x ∷ l) ≡ Malformed
     go (yes h) = absurd (no-value (sym (neither h) ∙ e))
-    go (no h) = simp (lt-leb x 0x39 (omega arith), and-false)
+    go (no h) =
+        decimal-kept (x ∷ l) (rw (ne-eqb x 0x30 (λ q. omega arith)))
+        ∙ written-other ten (x ∷ l) (simp (lt-leb x 0x39 (omega arith), and-false))
 
 -- A field that is found stands in the line; and one that is letters is no number.
 module _ (line : List ℕ) (c : Cursor) where
@@ -92,7 +96,7 @@ next-bad (f ∷ fs) more h = go (number f)
 
 by-rest :
     (kind : Kind) (fs : List (List ℕ))
-    → lineOfKind kind fs ≡ nextField number fs λ a fs. nextField number fs λ b fs. rest kind a b fs
+    → lineOfKind number kind fs ≡ nextField number fs λ a fs. nextField number fs λ b fs. rest kind a b fs
 unfolding segmentLine partitionLine rightLine flowLine slotLine
 by-rest OfSegment fs = refl
 by-rest OfPartition fs = refl
@@ -190,7 +194,7 @@ module _ (line : List ℕ) where
       let c4 : Cursor = pastLetters line c3 in
       closed (pastNumber line c4)
       (numbersSay kind (takenFrom f c .number) (takenFrom g c2 .number) (lettersAt line c3) (numberAt line c4))
-      ≡ lineOfKind kind (fieldsAfter line (c .at)))
+      ≡ lineOfKind number kind (fieldsAfter line (c .at)))
   unfolding numberRead lettersRead
   fields-say kind c Missing g ef eg =
       closed-bad (pastNumber line (pastLetters line (takenFrom g c .next)))

@@ -11,7 +11,7 @@ use lib.Dec.{eqb}
 use lib.ListN.{length, take, drop, length-drop}
 use lib.Seq.{drop-drop}
 use Rattle.text.proofs.Laws.Bools.{and-left, and-right, eqb-sum}
-use Rattle.text.proofs.Laws.Bytes.{same-lengths, same-long}
+use Rattle.text.proofs.Laws.Bytes.{same-lengths, same-equal}
 use Rattle.text.proofs.Laws.Ends.{fieldIn, field-nil, field-tab, field-line, field-more, field-within, piece-field, end-field}
 use Rattle.text.specs.Readers.{wordRead}
 use Rattle.text.specs.Bytes.{same}
@@ -103,10 +103,11 @@ module _ (text : List ℕ) (c : Cursor) where
   field = pieceAt tab (upTo text (c .at)) (c .at)
 
   pub word-known :
-      {kind : Kind} (word : List ℕ) → same field word ≡ true → wordOf field ≡ kind
-      → record { kind = kind; next = record { at = c .at + length word; line = c .line } } ≡ wordRead (upTo text (c .at)) c
+      (word : List ℕ) → same field word ≡ true
+      → record { kind = wordOf word; next = record { at = c .at + length word; line = c .line } }
+      ≡ wordRead (upTo text (c .at)) c
   unfolding wordRead endAt
-  word-known word h k = rw (k, same-long field word h)
+  word-known word h = rw (same-equal field word h)
 
   pub word-unknown :
       {kind : Kind} {end : ℕ} → end ≡ endAt tab (upTo text (c .at)) (c .at) → wordOf field ≡ kind

@@ -4,7 +4,7 @@
 
 use separation::boundary::Kernel;
 use separation::compare::{list_difference, record_difference, text_difference, text_gives, Reached, LIST_CASES, TEXT_CASES};
-use separation::generate::policies::{longest, policy, Shape, DEMONSTRATION};
+use separation::generate::policies::{full_in_hexadecimal, longest, policy, Shape, DEMONSTRATION};
 use separation::generate::{lists, records, texts};
 use separation::random::Random;
 use separation::reference::{report, sound};
@@ -82,6 +82,7 @@ fn compare_texts(options: &Options, kernels: &[Box<dyn Kernel>], reached: &mut R
             0 => DEMONSTRATION.as_bytes().to_vec(),
             1 => texts::text_of(&longest()),
             2 => Vec::new(),
+            3 => texts::hexadecimal_text_of(&full_in_hexadecimal()),
             _ => texts::text(&mut random),
         };
         bytes += text.len();

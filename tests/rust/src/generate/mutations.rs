@@ -1,5 +1,6 @@
 //! Changes to a text, line by line and field by field, near every limit.
 
+use super::numbers::{damage, hexadecimal, is_place, other_form, rewrite, worth};
 use crate::random::Random;
 
 pub type Lines = Vec<Vec<Vec<u8>>>;
@@ -24,7 +25,16 @@ const EDGES: [&str; 32] = [
     "12288", "16383", "16384", "16385", "32768", "65535", "65536", "65580", "99999", "64",
 ];
 const FORMS: [&str; 20] =
-    ["", "00", "01", "044", "00000", "000001", "100000", "123456", "4294967340", "+1", "-1", " 1", "1 ", "1a", "a", "0x1", "1.", "/", ":", "\u{b2}"];
+    ["", "00", "01", "044", "00000", "000001", "100000", "123456", "4294967340", "+1", "-1", " 1", "1 ", "1a", "a", "1x", "1.", "/", ":", "\u{b2}"];
+const HEX_EDGES: [&str; 32] = [
+    "0x0", "0x1", "0x2", "0x7", "0x8", "0x9", "0xa", "0xf", "0x10", "0x1f", "0x20", "0x21", "0x2b", "0x2c", "0x2d", "0xff", "0x100", "0x3e7",
+    "0x3e8", "0x3e9", "0xfff", "0x1000", "0x1001", "0x3000", "0x3001", "0x3fff", "0x4000", "0x4001", "0x8000", "0xfffe", "0xffff", "0x40",
+];
+const HEX_FORMS: [&str; 37] = [
+    "0x", "0X", "0x00", "0x01", "0x000", "0x0001", "0x00000", "0x0ffff", "0x10000", "0x12345", "0xfffff", "0X1", "0XA", "0xA", "0xF", "0xaF", "0xFa",
+    "0xG", "0xg", "0xfg", "0x1g", "x1", "00x1", "0xx1", "0x0x1", "0x 1", "0x1 ", " 0x1", "0x-1", "0x+1", "0x/", "0x:", "0x@", "0x`", "ff", "0a",
+    "2c",
+];
 const WORDS: [&str; 16] = [
     "segment",
     "partition",
@@ -43,19 +53,20 @@ const WORDS: [&str; 16] = [
     " slot",
     "memory",
 ];
-const LETTERS: [&str; 12] = ["r", "w", "rw", "wr", "R", "", "rr", "rwr", "r ", "x", "0", "3"];
+const LETTERS: [&str; 14] = ["r", "w", "rw", "wr", "R", "", "rr", "rwr", "r ", "x", "0", "3", "0x1", "0x3"];
 
 fn word(line: &[Vec<u8>]) -> &[u8] {
     line.first().map_or(&[], |word| word)
 }
 
 fn number(line: &[Vec<u8>], field: usize) -> usize {
-    line.get(field).and_then(|field| std::str::from_utf8(field).ok()).and_then(|text| text.parse::<u32>().ok()).unwrap_or(0) as usize
+    line.get(field).and_then(|field| worth(field)).unwrap_or(0)
 }
 
+/// In the form of what stood there.
 fn put(line: &mut [Vec<u8>], field: usize, value: usize) {
     if let Some(place) = line.get_mut(field) {
-        *place = value.to_string().into_bytes();
+        *place = if place.starts_with(b"0x") { hexadecimal(value) } else { value.to_string().into_bytes() };
     }
 }
 
@@ -100,15 +111,22 @@ pub fn mutate(random: &mut Random, lines: &mut Lines) {
     }
 }
 
-/// One field: a number at a limit, one up or down, in another form; the word; the letters.
+/// One field: a number at a limit, one up or down, in the other form or in none; the word; the letters.
 fn field(random: &mut Random, line: &mut [Vec<u8>]) {
     let which = random.below(line.len());
-    match (which, random.below(6)) {
-        (0, _) => line[0] = random.pick(&WORDS).into(),
-        (3, _) if word(line) == b"right" => line[3] = random.pick(&LETTERS).into(),
-        (_, 0) => line[which] = random.pick(&FORMS).into(),
-        (_, 1..=2) => put(line, which, number(line, which) + 1),
-        (_, 3) => put(line, which, number(line, which).saturating_sub(1)),
+    if !is_place(line, which) {
+        line[which] = if which == 0 { random.pick(&WORDS) } else { random.pick(&LETTERS) }.into();
+        return;
+    }
+    match random.below(10) {
+        0 => line[which] = random.pick(&FORMS).into(),
+        1 => line[which] = random.pick(&HEX_FORMS).into(),
+        2 => damage(random, &mut line[which]),
+        3..=4 => put(line, which, number(line, which) + 1),
+        5 => put(line, which, number(line, which).saturating_sub(1)),
+        // No answer changes, unless the text gets too long.
+        6 => line[which] = other_form(&line[which]).unwrap_or_else(|| line[which].clone()),
+        7 => line[which] = random.pick(&HEX_EDGES).into(),
         _ => line[which] = random.pick(&EDGES).into(),
     }
 }
@@ -211,7 +229,9 @@ fn one_more(random: &mut Random, lines: &mut Lines) {
         "partition" => format!("partition\t{id}\t{a}\t{b}"),
         _ => format!("slot\t{}\t{}", if a < 5 { 0 } else { a }, random.pick(&[1, 1_000, 1_001, 0])),
     };
-    lines.insert(end, line.split('\t').map(|field| field.as_bytes().to_vec()).collect());
+    let mut new = split(format!("{line}\n").as_bytes());
+    rewrite(random, &mut new, 3);
+    lines.splice(end..end, new);
 }
 
 /// Rules 7 and 8: a right on the code segment gone or weakened, a right made wider, a flow gone.
@@ -289,6 +309,8 @@ fn repair_free(random: &mut Random, lines: &mut Lines) {
     pairs.push((random.below(segments + 1), random.below(segments)));
     pairs.sort();
     pairs.dedup();
-    let new = pairs.iter().map(|(from, to)| vec![b"flow".to_vec(), from.to_string().into_bytes(), to.to_string().into_bytes()]);
+    let mut new: Lines = pairs.iter().map(|(from, to)| vec![b"flow".to_vec(), from.to_string().into_bytes(), to.to_string().into_bytes()]).collect();
+    let rate = random.pick(&[1, 3, 1_000]);
+    rewrite(random, &mut new, rate);
     lines.splice(start..end, new);
 }

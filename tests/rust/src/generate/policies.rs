@@ -156,7 +156,7 @@ fn flows(random: &mut Random, policy: &mut Policy, shape: Shape) {
     }
 }
 
-/// The record with the longest text of all: 14,143 bytes.
+/// The record with the longest text in decimal of all: 14,143 bytes.
 pub fn longest() -> Policy {
     let mut policy = Policy::ZERO;
     (policy.segments, policy.partitions, policy.slots) = (32, 8, 32);
@@ -189,6 +189,21 @@ pub fn longest() -> Policy {
     for slot in 0..32 {
         policy.slot_partition[slot] = slot as u8 % 8;
         policy.slot_ticks[slot] = 1_000;
+    }
+    policy
+}
+
+/// A record whose text of 1,124 lines has 12,293 bytes in decimal and in hexadecimal as many as there may be: 16,384.
+pub fn full_in_hexadecimal() -> Policy {
+    let mut policy = longest();
+    for p in 0..8 {
+        policy.code[p] = 8 + p as u8;
+        // The first two may do all; the others read their code and the last segment.
+        if p >= 2 {
+            policy.rights[32 * p..32 * p + 32].fill(0);
+            policy.rights[32 * p + 8 + p] = 1;
+            policy.rights[32 * p + 31] = 1;
+        }
     }
     policy
 }

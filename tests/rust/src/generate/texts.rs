@@ -1,6 +1,7 @@
 //! Random policy texts: accepted ones, mutated ones, and texts put together line by line or byte by byte.
 
 use super::mutations::{join, mutate, split};
+use super::numbers::{rewrite, written};
 use super::policies::{longest, policy, Shape};
 use crate::boundary::Policy;
 use crate::random::Random;
@@ -10,14 +11,28 @@ pub fn text_of(policy: &Policy) -> Vec<u8> {
     print(policy).expect("counts within the tables").into_bytes()
 }
 
+/// The record's text with all its numbers in hexadecimal.
+pub fn hexadecimal_text_of(policy: &Policy) -> Vec<u8> {
+    let mut lines = split(&text_of(policy));
+    rewrite(&mut Random::new(0), &mut lines, 1);
+    join(&lines)
+}
+
 /// One text of any sort.
 pub fn text(random: &mut Random) -> Vec<u8> {
     match random.below(20) {
-        0 => text_of(&any_policy(random)),
-        1..=2 => soup(random),
+        0 => {
+            let text = text_of(&any_policy(random));
+            written(random, text)
+        }
+        1..=2 => {
+            let text = soup(random);
+            written(random, text)
+        }
         3 => bytes(random),
         _ => {
-            let mut lines = split(&text_of(&any_policy(random)));
+            let text = text_of(&any_policy(random));
+            let mut lines = split(&written(random, text));
             // One mutation mostly; more of them for lines that break two rules, and for the order of bad lines.
             for _ in 0..random.pick(&[1, 1, 1, 2, 2, 3, 5]) {
                 mutate(random, &mut lines);
@@ -45,7 +60,7 @@ fn any_policy(random: &mut Random) -> Policy {
 
 /// Changes below the level of fields: single bytes, line ends, the text's length.
 fn spoil_bytes(random: &mut Random, text: &mut Vec<u8>) {
-    const BYTES: [u8; 16] = [b'\t', b'\n', b'\r', b' ', 0, b'0', b'1', b'9', b'r', b'w', b's', b'/', b':', 0x0B, 0x7F, 0xFF];
+    const BYTES: [u8; 26] = *b"\t\n\r \x00019rwsxXafgAFG/:@`\x0B\x7F\xFF";
     if text.is_empty() {
         return text.push(random.pick(&BYTES));
     }
@@ -124,7 +139,7 @@ fn soup(random: &mut Random) -> Vec<u8> {
 
 /// Bytes and pieces of lines in no order.
 fn bytes(random: &mut Random) -> Vec<u8> {
-    const PIECES: [&[u8]; 20] = [
+    const PIECES: [&[u8]; 25] = [
         b"segment",
         b"partition",
         b"right",
@@ -137,6 +152,11 @@ fn bytes(random: &mut Random) -> Vec<u8> {
         b"0",
         b"1",
         b"44",
+        b"0x",
+        b"0x2c",
+        b"x",
+        b"a",
+        b"A",
         b"r",
         b"w",
         b"rw",

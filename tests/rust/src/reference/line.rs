@@ -62,10 +62,22 @@ pub fn parse(line: &[u8]) -> Result<Line, &'static str> {
     })
 }
 
-/// "Numbers have 1 to 5 digits and no leading zero, except 0 itself."
+/// A number, in either form. A field that begins with 0x is judged as hexadecimal alone.
 fn number(field: &[u8]) -> Result<u32, &'static str> {
+    match field.strip_prefix(b"0x") {
+        Some(digits) => hexadecimal(digits),
+        None => decimal(field),
+    }
+}
+
+/// "Numbers have 1 to 5 digits and no leading zero, except 0 itself."
+fn decimal(field: &[u8]) -> Result<u32, &'static str> {
     if field.is_empty() || field.len() > 5 {
         return Err("2 bad number: digits");
+    }
+    // Change request S-4: "0x", and "capitals [..] are 2".
+    if field.starts_with(b"0X") {
+        return Err("2 bad number: capital X");
     }
     if !field.iter().all(|byte| byte.is_ascii_digit()) {
         return Err("2 bad number: not a digit");
@@ -74,6 +86,33 @@ fn number(field: &[u8]) -> Result<u32, &'static str> {
         return Err("2 bad number: leading zero");
     }
     Ok(field.iter().fold(0, |value, digit| 10 * value + u32::from(digit - b'0')))
+}
+
+/// Change request S-4: "In all places where a number stands, 0x and one to four digits 0–9 or a–f is now read too, without a leading zero except in
+/// 0x0. [..] Refused: capitals and five digits are 2." Here what stands after 0x.
+fn hexadecimal(digits: &[u8]) -> Result<u32, &'static str> {
+    if digits.is_empty() {
+        return Err("2 bad hexadecimal number: no digit");
+    }
+    if digits.len() > 4 {
+        return Err("2 bad hexadecimal number: over four digits");
+    }
+    if digits.iter().any(|byte| matches!(byte, b'A'..=b'F')) {
+        return Err("2 bad hexadecimal number: capital");
+    }
+    if digits[0] == b'0' && digits.len() > 1 {
+        return Err("2 bad hexadecimal number: leading zero");
+    }
+    let mut value = 0;
+    for &byte in digits {
+        value = 16 * value
+            + match byte {
+                b'0'..=b'9' => u32::from(byte - b'0'),
+                b'a'..=b'f' => u32::from(byte - b'a') + 10,
+                _ => return Err("2 bad hexadecimal number: not a digit"),
+            };
+    }
+    Ok(value)
 }
 
 /// "r, w or rw", in the record "0 none, 1 r, 2 w, 3 rw".

@@ -149,7 +149,8 @@ pub fn sources(policy: &Policy, t: usize) -> [bool; 32] {
     }
 }
 
-/// The one text that can give the record: ids, pairs and slots have one order, and numbers one form. Counts over the tables' sizes give no text.
+/// The one text with decimal numbers that can give the record: ids, pairs and slots have one order. Other texts that give it have some of these
+/// numbers in hexadecimal, which takes more bytes, so if any of them is accepted this one is. Counts over the tables' sizes give no text.
 pub fn print(policy: &Policy) -> Option<String> {
     if policy.segments > 32 || policy.partitions > 8 || policy.slots > 32 {
         return None;

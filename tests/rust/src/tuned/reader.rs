@@ -2,6 +2,17 @@
 
 use crate::boundary::{Policy, ReadResult};
 
+/// The worth of each byte as a hexadecimal digit, 16 where it is none.
+static DIGITS: [u8; 256] = {
+    let mut digits = [16; 256];
+    let mut worth = 0;
+    while worth < 16 {
+        digits[b"0123456789abcdef"[worth as usize] as usize] = worth;
+        worth += 1;
+    }
+    digits
+};
+
 struct Cursor<'t> {
     text: &'t [u8],
     at: usize,
@@ -19,7 +30,7 @@ impl Cursor<'_> {
         (self.peek() == byte).then(|| self.at += 1)
     }
 
-    /// A tab and a number of 1 to 5 digits.
+    /// A tab and a number: 1 to 5 digits, or 0x and 1 to 4 hexadecimal ones.
     #[inline(always)]
     fn number(&mut self) -> Option<u32> {
         self.take(b'\t')?;
@@ -30,7 +41,7 @@ impl Cursor<'_> {
         self.at += 1;
         let mut value = u32::from(first);
         if first == 0 {
-            return Some(0);
+            return if self.peek() == b'x' { self.hexadecimal() } else { Some(0) };
         }
         for _ in 0..4 {
             let digit = self.peek().wrapping_sub(b'0');
@@ -38,6 +49,29 @@ impl Cursor<'_> {
                 break;
             }
             value = 10 * value + u32::from(digit);
+            self.at += 1;
+        }
+        Some(value)
+    }
+
+    /// What follows a 0, from the x on.
+    #[inline(always)]
+    fn hexadecimal(&mut self) -> Option<u32> {
+        self.at += 1;
+        let mut value = u32::from(DIGITS[self.peek() as usize]);
+        if value > 15 {
+            return None;
+        }
+        self.at += 1;
+        if value == 0 {
+            return Some(0);
+        }
+        for _ in 0..3 {
+            let digit = DIGITS[self.peek() as usize];
+            if digit > 15 {
+                break;
+            }
+            value = 16 * value + u32::from(digit);
             self.at += 1;
         }
         Some(value)

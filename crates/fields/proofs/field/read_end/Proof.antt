@@ -14,14 +14,14 @@ shared-slice-read-if2 c = search needs
 returns-2 : tie.Need-returns-2
 returns-2 c = sym (line-end-other _ _ (c .if2 .taken))
 
-add-t5 : tie.Need-add-t5
-add-t5 c = search needs
+add-t6 : tie.Need-add-t6
+add-t6 c = search needs
 
-add-t9 : tie.Need-add-t9
-add-t9 c = search needs
+add-t10 : tie.Need-add-t10
+add-t10 c = search needs
 
 returns-3 : tie.Need-returns-3
 returns-3 c = sym (line-end-here _ _ (c .before .if2 .left))
 
 pub read-end-spec : {M : Type 1} → statement M
-read-end-spec = tie.close (tie.spec returns shared-slice-read-if2 returns-2 add-t5 add-t9 returns-3)
+read-end-spec = tie.close (tie.spec returns shared-slice-read-if2 returns-2 add-t6 add-t10 returns-3)

@@ -1,11 +1,11 @@
--- The first word that the field is decides, as in the definition, and its length gives the field's end; a field that is
--- none of them is asked for its end.
+-- A field that is a word has that word's kind and ends after its length; a field that is none of them is asked for its
+-- end.
 use mathlib.Core.Path.{refl, sym, _∙_}
 use borrow.Author.Needs.{needs}
 use Rattle.text.proofs.Laws.Readers.{word-past}
 use Rattle.text.proofs.Laws.Words.{word-known, word-unknown}
 use Rattle.text.specs.Places.{unparted}
-use Rattle.text.specs.Bytes.{bytesOf}
+use Rattle.text.specs.Bytes.{bytesOf, same}
 use Rattle.text.specs.Lines.{wordOf}
 use Rattle.fields.proofs.word.read_word.Statement.{statement}
 use Rattle.fields.proofs.word.read_word.Tie as tie
@@ -30,12 +30,11 @@ found-requires-2 : tie.Need-found-requires-2
 found-requires-2 c κs = search needs
 
 returns-2 : tie.Need-returns-2
-unfolding wordOf
+unfolding wordOf same
 returns-2 c =
-    let test1 = c .before in
-    let here = sym (test1 .before .stands .ensures) ∙ test1 .if2 .taken in
-    c .found2 .ensures ∙ word-known _ _ (bytesOf "segment") here
-    (rw here)
+    let test = c .before in
+    c .found2 .ensures
+    ∙ word-known _ _ (bytesOf "flow") (sym (test .before .stands .ensures) ∙ test .if2 .taken)
 
 slice-aggregate-stands-2 : tie.Need-slice-aggregate-stands-2
 slice-aggregate-stands-2 c = search needs
@@ -53,16 +52,11 @@ found-requires-3 : tie.Need-found-requires-3
 found-requires-3 c κs = search needs
 
 returns-3 : tie.Need-returns-3
-unfolding wordOf
+unfolding wordOf same
 returns-3 c =
-    let test2 = c .before in
-    let test1 = test2 .before .before .before in
-    let here = sym (test2 .before .stands2 .ensures) ∙ test2 .if3 .taken in
-    c .found3 .ensures ∙ word-known _ _ (bytesOf "partition") here
-    (rw (
-      sym (test1 .before .stands .ensures) ∙ test1 .if2 .left,
-      here,
-    ))
+    let test = c .before in
+    c .found3 .ensures
+    ∙ word-known _ _ (bytesOf "right") (sym (test .before .stands2 .ensures) ∙ test .if3 .taken)
 
 slice-aggregate-stands-3 : tie.Need-slice-aggregate-stands-3
 slice-aggregate-stands-3 c = search needs
@@ -81,18 +75,11 @@ found-requires-4 : tie.Need-found-requires-4
 found-requires-4 c κs = search needs
 
 returns-4 : tie.Need-returns-4
-unfolding wordOf
+unfolding wordOf same
 returns-4 c =
-    let test3 = c .before in
-    let test2 = test3 .before .before .before in
-    let test1 = test2 .before .before .before in
-    let here = sym (test3 .before .stands3 .ensures) ∙ test3 .if4 .taken in
-    c .found4 .ensures ∙ word-known _ _ (bytesOf "right") here
-    (rw (
-      sym (test1 .before .stands .ensures) ∙ test1 .if2 .left,
-      sym (test2 .before .stands2 .ensures) ∙ test2 .if3 .left,
-      here,
-    ))
+    let test = c .before in
+    c .found4 .ensures
+    ∙ word-known _ _ (bytesOf "slot") (sym (test .before .stands3 .ensures) ∙ test .if4 .taken)
 
 slice-aggregate-stands-4 : tie.Need-slice-aggregate-stands-4
 slice-aggregate-stands-4 c = search needs
@@ -112,20 +99,11 @@ found-requires-5 : tie.Need-found-requires-5
 found-requires-5 c κs = search needs
 
 returns-5 : tie.Need-returns-5
-unfolding wordOf
+unfolding wordOf same
 returns-5 c =
-    let test4 = c .before in
-    let test3 = test4 .before .before .before in
-    let test2 = test3 .before .before .before in
-    let test1 = test2 .before .before .before in
-    let here = sym (test4 .before .stands4 .ensures) ∙ test4 .if5 .taken in
-    c .found5 .ensures ∙ word-known _ _ (bytesOf "flow") here
-    (rw (
-      sym (test1 .before .stands .ensures) ∙ test1 .if2 .left,
-      sym (test2 .before .stands2 .ensures) ∙ test2 .if3 .left,
-      sym (test3 .before .stands3 .ensures) ∙ test3 .if4 .left,
-      here,
-    ))
+    let test = c .before in
+    c .found5 .ensures
+    ∙ word-known _ _ (bytesOf "segment") (sym (test .before .stands4 .ensures) ∙ test .if5 .taken)
 
 slice-aggregate-stands-5 : tie.Need-slice-aggregate-stands-5
 slice-aggregate-stands-5 c = search needs
@@ -146,22 +124,11 @@ found-requires-6 : tie.Need-found-requires-6
 found-requires-6 c κs = search needs
 
 returns-6 : tie.Need-returns-6
-unfolding wordOf
+unfolding wordOf same
 returns-6 c =
-    let test5 = c .before in
-    let test4 = test5 .before .before .before in
-    let test3 = test4 .before .before .before in
-    let test2 = test3 .before .before .before in
-    let test1 = test2 .before .before .before in
-    let here = sym (test5 .before .stands5 .ensures) ∙ test5 .if6 .taken in
-    c .found6 .ensures ∙ word-known _ _ (bytesOf "slot") here
-    (rw (
-      sym (test1 .before .stands .ensures) ∙ test1 .if2 .left,
-      sym (test2 .before .stands2 .ensures) ∙ test2 .if3 .left,
-      sym (test3 .before .stands3 .ensures) ∙ test3 .if4 .left,
-      sym (test4 .before .stands4 .ensures) ∙ test4 .if5 .left,
-      here,
-    ))
+    let test = c .before in
+    c .found6 .ensures
+    ∙ word-known _ _ (bytesOf "partition") (sym (test .before .stands5 .ensures) ∙ test .if6 .taken)
 
 field-end-requires : tie.Need-field-end-requires
 field-end-requires c κs = search needs

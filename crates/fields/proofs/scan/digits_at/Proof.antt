@@ -1,0 +1,55 @@
+-- A field that ends after its decimal digits has no x there; otherwise the code asks what the definition asks.
+use borrow.Author.Needs.{needs}
+use borrow.Author.Tests.{not-true, not-false}
+use Rattle.text.proofs.Laws.Scan.{decimal-digits, ended-digits, hex-digits}
+use Rattle.fields.proofs.scan.digits_at.Statement.{statement}
+use Rattle.fields.proofs.scan.digits_at.Tie as tie
+
+digits-from-requires : tie.Need-digits-from-requires
+digits-from-requires c κs = search needs
+
+parts-requires : tie.Need-parts-requires
+parts-requires c κs = search needs
+
+returns : tie.Need-returns
+returns c =
+    let digits = c .before .before in
+    ended-digits _ _ (digits .digits-from .ensures) (c .before .parts .ensures) (c .if1 .taken)
+
+add-if2 : tie.Need-add-if2
+add-if2 c = search needs
+
+returns-2 : tie.Need-returns-2
+returns-2 c =
+    let ended = c .before .before .before .before .before in
+    decimal-digits _ _ (ended .before .digits-from .ensures) (ended .parts .ensures) (not-true _ (c .if2 .taken))
+
+add-digits : tie.Need-add-digits
+add-digits c = search needs
+
+hex-from-requires : tie.Need-hex-from-requires
+hex-from-requires c κs = search needs
+
+parts-requires-2 : tie.Need-parts-requires-2
+parts-requires-2 c κs = search needs
+
+returns-3 : tie.Need-returns-3
+returns-3 c =
+    let mark = c .before .before in
+    let ended = mark .before .before .before .before .before in
+    hex-digits _ _ (ended .before .digits-from .ensures) (not-false _ (mark .if2 .left)) (c .before .hex-from .ensures)
+    (c .parts2 .ensures)
+
+pub digits-at-spec : {M : Type 1} → statement M
+digits-at-spec =
+    tie.close
+    (tie.spec
+    digits-from-requires
+    parts-requires
+    returns
+    add-if2
+    returns-2
+    add-digits
+    hex-from-requires
+    parts-requires-2
+    returns-3)
