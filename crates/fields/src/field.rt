@@ -28,7 +28,7 @@ pub fn read_number(text: &[u8], c: Cursor) -> NumberRead
     if text[at] == b'\n' {
         return none;
     }
-    let d = crate::scan::digits_at(text, at + 1);
+    let d = digits::digits_at(text, at + 1);
     let ended = d.ended;
     if !ended {
         return none;
@@ -38,7 +38,7 @@ pub fn read_number(text: &[u8], c: Cursor) -> NumberRead
     if end == from {
         return none;
     }
-    if crate::scan::room(text[from], d.most) < end - from {
+    if digits::room(text[from], d.most) < end - from {
         return none;
     }
     NumberRead {

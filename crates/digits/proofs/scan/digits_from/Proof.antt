@@ -9,8 +9,8 @@ use Rattle.text.specs.Digits.{digitsRead}
 use Rattle.text.specs.Number.{ten}
 use Rattle.text.proofs.Laws.Scan.{digitsOn, on-begin, on-past, on-other, on-more}
 use Rattle.text.proofs.Laws.Scan.{digit-known, digit-is, no-digit-is}
-use Rattle.fields.proofs.scan.digits_from.Statement.{statement}
-use Rattle.fields.proofs.scan.digits_from.Tie as tie
+use Rattle.digits.proofs.scan.digits_from.Statement.{statement}
+use Rattle.digits.proofs.scan.digits_from.Tie as tie
 
 abbrev Inv-loop : tie.InvT-loop
 Inv-loop text from i₀ value₀ i value =

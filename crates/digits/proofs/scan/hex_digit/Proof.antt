@@ -4,8 +4,8 @@ use borrow.Author.Tests.{leb-true}
 use lib.Dec.{leb}
 use Rattle.text.specs.Digits.{digitWorth}
 use Rattle.text.proofs.Laws.Bools.{and-left}
-use Rattle.fields.proofs.scan.hex_digit.Statement.{statement}
-use Rattle.fields.proofs.scan.hex_digit.Tie as tie
+use Rattle.digits.proofs.scan.hex_digit.Statement.{statement}
+use Rattle.digits.proofs.scan.hex_digit.Tie as tie
 
 sub-result : tie.Need-sub-result
 sub-result c = let b = c .before .args .b in leb-true 0x30 b (and-left (leb 0x30 b) (leb b 0x39) (c .if1 .taken))

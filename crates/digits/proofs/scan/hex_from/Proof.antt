@@ -8,8 +8,8 @@ use lib.ListN.{length, drop, getD}
 use Rattle.text.specs.Digits.{digitsRead}
 use Rattle.text.specs.Number.{sixteen}
 use Rattle.text.proofs.Laws.Scan.{digitsOn, on-begin, on-past, on-other, on-more, hex-known, hex-other}
-use Rattle.fields.proofs.scan.hex_from.Statement.{statement}
-use Rattle.fields.proofs.scan.hex_from.Tie as tie
+use Rattle.digits.proofs.scan.hex_from.Statement.{statement}
+use Rattle.digits.proofs.scan.hex_from.Tie as tie
 
 abbrev Inv-loop : tie.InvT-loop
 Inv-loop text from i₀ value₀ i value =

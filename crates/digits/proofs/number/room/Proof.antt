@@ -1,7 +1,7 @@
 -- By whether the first digit is 0.
 use borrow.Author.Tests.{eq-eqb, ne-eqb}
-use Rattle.fields.proofs.scan.room.Statement.{statement}
-use Rattle.fields.proofs.scan.room.Tie as tie
+use Rattle.digits.proofs.number.room.Statement.{statement}
+use Rattle.digits.proofs.number.room.Tie as tie
 
 returns : tie.Need-returns
 returns c = rw (eq-eqb (c .before .args .first) 0x30 (c .if1 .taken))
