@@ -60,7 +60,7 @@ valueFrom form n (b ∷ bs) = valueFrom form (n * form .base + form .worth b) bs
 abbrev pub written : Notation → List ℕ → Number
 written form digits = cond (isNumber form digits) (Value (valueFrom form 0 digits)) Malformed
 
--- 01's numbers.
+-- 01's numbers: all that was read before 02's S-4.
 unfoldable pub decimal : List ℕ → Number
 decimal field = written ten field
 
@@ -68,7 +68,7 @@ decimal field = written ten field
 unfoldable pub beginsHex : List ℕ → Bool
 beginsHex field = same (take 2 field) (bytesOf "0x")
 
--- ".. one to four digits 0–9 or a–f"
+-- ".. one to four digits 0–9 or a–f .. without a leading zero except in 0x0. .. Refused: capitals and five digits are 2."
 unfoldable pub hexadecimal : List ℕ → Number
 hexadecimal field = cond (beginsHex field) (written sixteen (drop 2 field)) Malformed
 
