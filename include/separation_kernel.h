@@ -8,9 +8,10 @@
 #include <stddef.h>
 #include <stdint.h>
 
-#define SEPARATION_KERNEL_VERSION_MAJOR 1
-#define SEPARATION_KERNEL_VERSION_MINOR 1
-#define SEPARATION_KERNEL_VERSION "1.1"
+/* 2.0: rights and flows are masks; a record of 1.x does not fit. */
+#define SEPARATION_KERNEL_VERSION_MAJOR 2
+#define SEPARATION_KERNEL_VERSION_MINOR 0
+#define SEPARATION_KERNEL_VERSION "2.0"
 
 /* The bytes of memory that Start, Pend and Run take, and the most bytes of a policy text. */
 #define SK_MEMORY_BYTES 16384
@@ -39,15 +40,25 @@ enum sk_refusal {
     SK_TOO_MANY_TICKS = 14 /* over 10,000 ticks in one Run */
 };
 
-/* A policy. The counts are at most 32, 8 and 32; entries past them are 0. */
+/* A policy, in 436 bytes without a hole: memcmp compares two of them, and two reads of one text are equal by it. The counts are at most 32, 8 and 32;
+ * entries past them are 0.
+ *
+ * In a mask bit s is worth 2 to the power s and stands for segment s; bits past the last segment are 0. To test one:
+ *
+ *     policy.reads[p] >> s & 1      a right line gives partition p r on segment s (r or rw)
+ *     policy.writes[p] >> s & 1     it gives w (w or rw)
+ *     policy.sources[t] >> s & 1    there is a line "flow s t"
+ *
+ * s must be below 32. The masks hold right lines alone: a partition's own save segment, which it reads and writes without one, has no bit in them. */
 struct sk_policy {
     uint8_t segments, partitions, slots;
+    uint8_t unused;               /* 0; a record with another value is refused by 10 */
     uint16_t base[32], size[32];  /* of each segment */
     uint8_t code[8], save[8];     /* each partition's code and save segment */
     uint8_t slot_partition[32];   /* of each slot of the schedule */
     uint16_t slot_ticks[32];
-    uint8_t rights[256];          /* at 32 * partition + segment: 0 none, 1 r, 2 w, 3 rw */
-    uint8_t flows[1024];          /* at 32 * from + to: 1 if there is a flow line */
+    uint32_t reads[8], writes[8]; /* of each partition: mask of segments */
+    uint32_t sources[32];         /* of each segment: mask of those that flow into it */
 };
 
 /* A place in the schedule: a slot, and the ticks used in it. */

@@ -153,24 +153,52 @@ CHANGES = [
     ("size", 4, (0, 1, 4096, 4097, 65535)), ("size", 1, (43, 45)), ("size", 5, (1,)), ("size", 31, (1,)),
     ("code", 1, (0, 1, 3, 5, 255)), ("code", 2, (1,)), ("code", 7, (1,)), ("save", 1, (1, 2, 0, 4, 5, 255)), ("save", 2, (1,)), ("save", 7, (1,)),
     ("owner", 1, (0, 2, 255)), ("owner", 2, (1,)), ("owner", 31, (1,)), ("ticks", 0, (0, 1, 1000, 1001, 65535)), ("ticks", 2, (1,)), ("ticks", 31, (1,)),
-    ("rights", 0, (0, 2, 3)), ("rights", 4, (0, 1, 3, 4, 255)), ("rights", 1, (1, 2)), ("rights", 3, (1,)), ("rights", 5, (1,)), ("rights", 36, (0, 2, 3)), ("rights", 64, (1,)), ("rights", 255, (1,)),
-    ("flows", 1, (0, 2, 255)), ("flows", 36, (0,)), ("flows", 0, (1,)), ("flows", 3, (1,)), ("flows", 129, (1,)), ("flows", 5, (1,)), ("flows", 160, (1,)), ("flows", 1023, (1,)),
+    ("unused", 0, (1, 2, 128, 255, 0)),
 ]
 for field, index, values in CHANGES:
     s = add("record-%s-%d" % (field, index), DEMO).write(0, K5)
     for v in values:
         s.change(field, index, v).start().pend(1, 0).run(2)
+
+# Masks of the demonstration with bits turned, and back after each. Segments 1 and 3 are save segments, 5 is the first that isn't there.
+TURNS = [
+    # The code segment, a segment that it writes, save segments, past the last segment.
+    ("reads", 0, [(0,), (4,), (2,), (1,), (3,), (5,), (31,), (0, 5), range(32)]), ("reads", 1, [(2,), (4,), (0,), (3,), (1,), (30, 31)]),
+    ("writes", 0, [(4,), (0,), (2,), (1,), (3,), (5,), (31,), range(32)]), ("writes", 1, [(4,), (2,), (1,), (3,), (6,)]),
+    # Partitions that aren't there.
+    ("reads", 2, [(0,), (31,), range(32)]), ("reads", 7, [(0,), (4,), (31,)]), ("writes", 2, [(0,), (4,)]), ("writes", 7, [(4,), (31,), range(32)]),
+    # A line missing, one more, from a segment to itself, from a segment that isn't there.
+    ("sources", 0, [(1,), (4,), (1, 2, 3, 4), (0,), (5,), (31,), range(32)]), ("sources", 1, [(0,), (4,), (1,), (0, 1), (5,)]),
+    ("sources", 3, [(2,), (4,), (2, 4), (0,), (3,), (16,)]), ("sources", 4, [(0,), (1,), (0, 1), (2,), (2, 3), (4,), (5,), (31,)]),
+    # Segments that aren't there.
+    ("sources", 5, [(0,), (5,), range(5)]), ("sources", 31, [(0,), (31,), range(32)]),
+]
+for field, index, all_bits in TURNS:
+    s = add("record-%s-%d" % (field, index), DEMO).write(0, K5)
+    for bits in all_bits:
+        s.turn(field, index, *bits).start().pend(1, 0).run(2).turn(field, index, *bits)
+    s.start()
+# All 32 segments are there, so bit 31 is one as any other: partition 7 writes segment 31, partition 6 nothing of it.
+s = add("record-bit-31", FULL).write(4096 + 40 * 7, code(LOAD(0, 1, 31), LOAD(2, 1, 30))).start()
+for index in (6, 7):
+    s.turn("reads", index, 31).start().turn("reads", index, 31).turn("writes", index, 31).start().turn("writes", index, 31)
+s.turn("reads", 7, 31).at(31, 0)
+for t in (7, 23):
+    s.run(1).turn("sources", t, 31)
+s.run(1).run(1).look(100 + 44 * 7, 44).turn("sources", 31, 31).run(1).turn("sources", 31, 31).run(0)
+# Two bits turned at once: a right moved to another segment, a line turned round.
+add("record-moved", DEMO).turn("reads", 0, 0, 2).start().turn("reads", 0, 0, 2).turn("sources", 1, 0).turn("sources", 0, 1).start()
 # Rule 8 by target: each line that it asks for taken away and put back, then lines into several targets, one after the other.
 s = add("record-targets", SHARING)
 for a, b in FLOWS:
-    s.change("flows", 32 * a + b, 0).start().change("flows", 32 * a + b, 1).start()
+    s.turn("sources", b, a).start().turn("sources", b, a).start()
 for a, b in FLOWS:
-    s.change("flows", 32 * a + b, 0).start()
+    s.turn("sources", b, a).start()
 for a, b in FLOWS:
-    s.change("flows", 32 * a + b, 1).start()
+    s.turn("sources", b, a).start()
 add("record-of-zeros", b"").start().pend(0, 0).run(0).pend(0, 8).at(1, 1).run(10001)
-add("record-order", DEMO).change("flows", 33, 1).start().pend(2, 8).at(2, 0).run(10001).change("flows", 33, 0).pend(2, 8).run(10001).at(0, 0).run(10001).pend(0, 8)
-add("record-right-taken", DEMO).write(0, K5).start().change("rights", 4, 0).change("flows", 36, 0).run(3).look(64, 44).look(256, 1)
+add("record-order", DEMO).turn("sources", 1, 1).start().pend(2, 8).at(2, 0).run(10001).turn("sources", 1, 1).pend(2, 8).run(10001).at(0, 0).run(10001).pend(0, 8)
+add("record-right-taken", DEMO).write(0, K5).start().turn("writes", 0, 4).turn("sources", 4, 1).run(3).look(64, 44).look(256, 1)
 add("record-slots-fewer", DEMO).start().at(1, 0).change("slots", 0, 1).run(1).change("owner", 1, 0).change("ticks", 1, 0).run(1).at(0, 2).run(1)
 
 # Every opcode.

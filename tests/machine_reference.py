@@ -1,7 +1,8 @@
 #!/usr/bin/env python3
-"""The tick machine and the operations Start, Pend and Run, written from document 01 alone.
+"""The tick machine and the operations Start, Pend and Run, written from documents 01 and 02 alone.
 
-It shares nothing with the Rattle code, and serves to make expected outputs and to compare answers. The comments quote document 01.
+It shares nothing with the Rattle code, and serves to make expected outputs and to compare answers. The comments quote document 01, where they do not
+name document 02.
 """
 from policy_reference import parse, read
 
@@ -11,21 +12,27 @@ WORD = 4294967296
 
 class Record:
     """ "The policy record holds the numbers of segments, partitions and slots; each segment's base and length; each partition's code and save
-    segment; each slot's partition and ticks; one byte for each pair of partition and segment [..]; and one byte (0 or 1) for each ordered pair
-    of segments (from, to). Unused entries are 0." """
+    segment; each slot's partition and ticks; [..]. Unused entries are 0." 02, S-6: "Keep the right lines of a partition as two 32-bit masks, one for
+    read and one for write, and the sources of a segment as one 32-bit mask, bit s for segment s, worth 2 to the power s." One byte is never used. """
 
     def __init__(self):
-        self.segments = self.partitions = self.slots = 0
+        self.segments = self.partitions = self.slots = self.unused = 0
         self.base, self.size = [0] * 32, [0] * 32
         self.code, self.save = [0] * 8, [0] * 8
         self.owner, self.ticks = [0] * 32, [0] * 32
-        self.rights = [0] * 256  # at 32 * partition + segment
-        self.flows = [0] * 1024  # at 32 * from + to
+        self.reads, self.writes = [0] * 8, [0] * 8
+        self.sources = [0] * 32
+
+    def lines(self):
+        """The lines of right and flow that the masks stand for."""
+        bits = lambda mask: {s for s in range(32) if mask // 2**s % 2}
+        rights = [(p, s, "r" * (s in r) + "w" * (s in w)) for p in range(8) for r, w in [(bits(self.reads[p]), bits(self.writes[p]))] for s in sorted(r | w)]
+        return rights, sorted((s, t) for t in range(32) for s in bits(self.sources[t]))
 
 
 def record_of(text):
     """The number that reading the text answers, and its record. "A refusal returns [..] the record of zeros." """
-    number, record = read(text)[0], Record()
+    number, record, rights, flows = read(text)[0], Record(), [], []
     if number:
         return number, record
     for line in text.split(b"\n")[:-1]:
@@ -37,12 +44,15 @@ def record_of(text):
             record.code[v[0]], record.save[v[0]] = v[1], v[2]
             record.partitions += 1
         elif kind == 2:
-            record.rights[32 * v[0] + v[1]] = v[2]
+            rights.append(v)
         elif kind == 3:
-            record.flows[32 * v[0] + v[1]] = 1
+            flows.append(v)
         else:
             record.owner[record.slots], record.ticks[record.slots] = v[0], v[1]
             record.slots += 1
+    record.reads = [sum(2**s for q, s, right in rights if q == p and right in (1, 3)) for p in range(8)]
+    record.writes = [sum(2**s for q, s, right in rights if q == p and right in (2, 3)) for p in range(8)]
+    record.sources = [sum(2**s for s, to in flows if to == t) for t in range(32)]
     return 0, record
 
 
@@ -50,13 +60,12 @@ def sound(record):
     """ "A record is sound if some accepted text gives it." Such a text has a line for each entry that is in use, and stays accepted, and
     gets no longer, when all its numbers are written in decimal: so the text made here is one if there is any. """
     r = record
-    if r.segments > 32 or r.partitions > 8 or r.slots > 32 or max(r.rights) > 3 or max(r.flows) > 1:
+    if r.segments > 32 or r.partitions > 8 or r.slots > 32:
         return False
-    letters = [None, "r", "w", "rw"]
+    rights, flows = r.lines()
     lines = ["segment %d %d %d" % (s, r.base[s], r.size[s]) for s in range(r.segments)]
     lines += ["partition %d %d %d" % (p, r.code[p], r.save[p]) for p in range(r.partitions)]
-    lines += ["right %d %d %s" % (i // 32, i % 32, letters[right]) for i, right in enumerate(r.rights) if right]
-    lines += ["flow %d %d" % (i // 32, i % 32) for i, flow in enumerate(r.flows) if flow]
+    lines += ["right %d %d %s" % right for right in rights] + ["flow %d %d" % flow for flow in flows]
     lines += ["slot %d %d" % (r.owner[i], r.ticks[i]) for i in range(r.slots)]
     number, given = record_of("".join(line.replace(" ", "\t") + "\n" for line in lines).encode())
     return number == 0 and vars(given) == vars(record)
@@ -131,8 +140,8 @@ class Tick:
             return self.fault(5)
         if op in (LOAD, STORE):
             # "3 segment c not there, or no line gives the right (save segments never have one)"
-            right = 1 if op == LOAD else 2
-            if c >= self.record.segments or not self.record.rights[32 * self.partition + c] & right:
+            masks = self.record.reads if op == LOAD else self.record.writes
+            if c >= self.record.segments or not masks[self.partition] >> c & 1:
                 return self.fault(3)
             # "4 offset at or past the length"
             if self.register(b) >= self.record.size[c]:

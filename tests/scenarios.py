@@ -7,13 +7,22 @@ spaces, with a line end. The last step is `end`. Words differ in their first let
 """
 import machine_reference as machine
 
-# The fields of the policy record, in the order of `change`.
-FIELDS = ["segments", "partitions", "slots", "base", "size", "code", "save", "owner", "ticks", "rights", "flows"]
+# The fields of the policy record, by the numbers that `change` has for them.
+FIELDS = ["segments", "partitions", "slots", "base", "size", "code", "save", "owner", "ticks", "reads", "writes", "sources", "unused"]
+
+
+def put(record, field, index, value):
+    if isinstance(getattr(record, field), list):
+        getattr(record, field)[index] = value
+    else:
+        setattr(record, field, value)
 
 
 class Scenario:
     def __init__(self, name, text, size=machine.MEMORY):
         self.name, self.text, self.size, self.steps = name, text, size, []
+        # As it stands after the steps so far.
+        self.record = machine.record_of(text)[1]
 
     def step(self, word, *numbers, data=b""):
         self.steps.append((word, list(numbers), data))
@@ -43,7 +52,12 @@ class Scenario:
 
     def change(self, field, index, value):
         """An entry of the policy record gets another value."""
+        put(self.record, field, index, value)
         return self.step("change", FIELDS.index(field), index, value)
+
+    def turn(self, field, index, *bits):
+        """Bits of a mask of the policy record are turned."""
+        return self.change(field, index, getattr(self.record, field)[index] ^ sum(1 << bit for bit in bits))
 
     def look(self, at, count):
         """So many bytes of memory are shown."""
@@ -78,11 +92,7 @@ class Scenario:
             elif word == "fill":
                 memory[:] = bytes((i + numbers[0]) % 251 + 1 for i in range(self.size))
             elif word == "change":
-                name, index, value = FIELDS[numbers[0]], numbers[1], numbers[2]
-                if isinstance(getattr(record, name), list):
-                    getattr(record, name)[index] = value
-                else:
-                    setattr(record, name, value)
+                put(record, FIELDS[numbers[0]], *numbers[1:])
             elif word == "look":
                 at, count = numbers
                 out.append(("look %d %d" % (at, count), " ".join(str(b) for b in memory[at : at + count])))

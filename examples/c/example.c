@@ -7,7 +7,7 @@
 #include <stdio.h>
 #include <string.h>
 
-_Static_assert(sizeof(struct sk_policy) == 1524, "the record has the layout that the library expects");
+_Static_assert(sizeof(struct sk_policy) == 436, "the record has the layout that the library expects");
 _Static_assert(sizeof(struct sk_run_result) == 12, "so has the answer of a Run");
 
 static const char demonstration[] =
@@ -26,6 +26,21 @@ static void print_save(const struct sk_policy *policy, unsigned partition)
 {
     const uint8_t *save = memory + policy->base[policy->save[partition]];
     printf("partition %u: counter %u, state %u, fault %u, pended lines %u\n", partition, save[32] + 256u * save[33], save[34], save[35], save[36]);
+}
+
+static void print_masks(const struct sk_policy *policy, unsigned partition)
+{
+    printf("partition %u: read mask %lu, write mask %lu\n", partition, (unsigned long)policy->reads[partition], (unsigned long)policy->writes[partition]);
+}
+
+/* The segments whose bit stands in a mask. */
+static void print_sources(const struct sk_policy *policy, unsigned segment)
+{
+    printf("segments that flow into segment %u:", segment);
+    for (unsigned s = 0; s < policy->segments; s++)
+        if (policy->sources[segment] >> s & 1)
+            printf(" %u", s);
+    printf("\n");
 }
 
 int main(int count, char **words)
@@ -53,6 +68,9 @@ int main(int count, char **words)
     struct sk_policy policy = read.policy;
     printf("policy accepted: %u partitions, %u segments, %u slots, sound %u\n", policy.partitions, policy.segments, policy.slots,
            (unsigned)sk_sound(policy));
+    for (unsigned p = 0; p < policy.partitions; p++)
+        print_masks(&policy, p);
+    print_sources(&policy, policy.segments - 1u);
 
     struct sk_run_result run = sk_start(policy, memory, sizeof memory);
     printf("start: %u\n", (unsigned)run.number);

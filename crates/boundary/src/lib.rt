@@ -4,12 +4,14 @@ ghost use mathlib.Core.Path.{_≡_};
 ghost use mathlib.Core.Bool.{cond};
 ghost use Rattle.policy.specs.Limits.{single};
 ghost use Rattle.policy.specs.Read.{readOf};
+ghost use Rattle.policy.specs.Record.{tablesOf};
 ghost use Rattle.policy.specs.Sound.{soundOf};
+ghost use Rattle.calls.specs.Under.{underPolicy};
 ghost use Rattle.calls.specs.Outcomes.{outcomeNumber};
 ghost use Rattle.calls.specs.Start.{startAnswer, afterStart};
 ghost use Rattle.calls.specs.Pend.{pendOutcome, afterPend};
 ghost use Rattle.calls.specs.Run.{stateOf, runAnswer, afterRun};
-ghost use Rattle.boundary.specs.Results.{readResult, runResult};
+ghost use Rattle.boundary.specs.Results.{Tells, runResult};
 use machine::Place;
 use policy::Policy;
 
@@ -30,7 +32,7 @@ pub struct RunResult {
 
 #[no_mangle]
 pub extern "C" fn sk_read(text: &[u8]) -> ReadResult
-    ensures { λ r. ⌜ r ≡ readResult (readOf single (now (text .entry))) ⌝ }
+    ensures { λ r. ⌜ Tells r (readOf single (now (text .entry))) ⌝ }
 {
     let reading = reader::read(text);
     let refusal = reading.refusal;
@@ -44,15 +46,15 @@ pub extern "C" fn sk_read(text: &[u8]) -> ReadResult
 
 #[no_mangle]
 pub extern "C" fn sk_sound(policy: Policy) -> u32
-    ensures { λ r. ⌜ r ≡ cond (soundOf policy) 1 0 ⌝ }
+    ensures { λ r. ⌜ r ≡ cond (soundOf single (tablesOf policy)) 1 0 ⌝ }
 {
     if sound::sound(policy) { 1 } else { 0 }
 }
 
 #[no_mangle]
 pub extern "C" fn sk_start(policy: Policy, memory: &mut [u8]) -> RunResult
-    ensures { λ r. ⌜ r ≡ runResult (startAnswer policy (now (memory .entry))) ⌝ }
-    ensures { λ _. ⌜ now (memory .exit) ≡ afterStart policy (now (memory .entry)) ⌝ }
+    ensures { λ r. ⌜ r ≡ runResult (startAnswer (underPolicy policy) (now (memory .entry))) ⌝ }
+    ensures { λ _. ⌜ now (memory .exit) ≡ afterStart (underPolicy policy) (now (memory .entry)) ⌝ }
 {
     let answer = kernel::start(policy, memory);
     let outcome = answer.outcome;
@@ -65,16 +67,16 @@ pub extern "C" fn sk_start(policy: Policy, memory: &mut [u8]) -> RunResult
 
 #[no_mangle]
 pub extern "C" fn sk_pend(policy: Policy, memory: &mut [u8], partition: u32, line: u32) -> u32
-    ensures { λ r. ⌜ r ≡ outcomeNumber (pendOutcome policy (now (memory .entry)) partition line) ⌝ }
-    ensures { λ _. ⌜ now (memory .exit) ≡ afterPend policy (now (memory .entry)) partition line ⌝ }
+    ensures { λ r. ⌜ r ≡ outcomeNumber (pendOutcome (underPolicy policy) (now (memory .entry)) partition line) ⌝ }
+    ensures { λ _. ⌜ now (memory .exit) ≡ afterPend (underPolicy policy) (now (memory .entry)) partition line ⌝ }
 {
     kernel::outcome_number(kernel::pend(policy, memory, partition, line))
 }
 
 #[no_mangle]
 pub extern "C" fn sk_run(policy: Policy, memory: &mut [u8], place: Place, ticks: u32) -> RunResult
-    ensures { λ r. ⌜ r ≡ runResult (runAnswer policy (stateOf (now (memory .entry)) place) ticks) ⌝ }
-    ensures { λ _. ⌜ now (memory .exit) ≡ afterRun policy (stateOf (now (memory .entry)) place) ticks .memory ⌝ }
+    ensures { λ r. ⌜ r ≡ runResult (runAnswer (underPolicy policy) (stateOf (now (memory .entry)) place) ticks) ⌝ }
+    ensures { λ _. ⌜ now (memory .exit) ≡ afterRun (underPolicy policy) (stateOf (now (memory .entry)) place) ticks .memory ⌝ }
 {
     let answer = kernel::run(policy, memory, place, ticks);
     let outcome = answer.outcome;

@@ -6,10 +6,9 @@ use mathlib.Core.Path.{_≡_, refl, sym, _∙_, ap}
 use mathlib.Core.Bool.{Bool, true, false, cond}
 use mathlib.Core.Logic.{_⊎_, inl, inr, ⊎-elim}
 use mathlib.Core.List.{List, [], _∷_, _++_, List·Memᴰ, List·Memᴰ·head, List·Memᴰ·tail, List·Memᴰ·not-nil, List·Memᴰ·cases-cons}
-use Rattle.policy.specs.declared.record.Policy.{Policy}
 use Rattle.policy.specs.View.{View}
-use Rattle.policy.specs.Record.{viewOf}
 use Rattle.machine.specs.Machine.{State, next}
+use Rattle.calls.specs.Under.{Under}
 use Rattle.calls.specs.declared.Outcome.the-variants.{Done}
 use Rattle.calls.specs.Outcomes.{isDone}
 use Rattle.calls.specs.Pend.{withLine, pendOutcome, afterPend}
@@ -92,52 +91,52 @@ module _ (v : View) where
   plan-run true n k f x = plan-later n k f x
   plan-run false n k f x = plan-later 0 k f x
 
-module _ (policy : Policy) where
+module _ (u : Under) where
   -- Which Pends of a list act after k ticks.
   pub gaps : List Call → State → Gaps
   gaps [] x k = []
-  gaps (pend p line ∷ cs) x k = ahead (isDone (pendOutcome policy (x .memory) p line)) (p, line) (gaps cs (step policy (pend p line) x)) k
-  gaps (run n ∷ cs) x k = later (did policy (run n) x) (gaps cs (step policy (run n) x)) k
+  gaps (pend p line ∷ cs) x k = ahead (isDone (pendOutcome u (x .memory) p line)) (p, line) (gaps cs (step u (pend p line) x)) k
+  gaps (run n ∷ cs) x k = later (did u (run n) x) (gaps cs (step u (run n) x)) k
 
   -- What a list does is what its normal form does.
-  pub exec-plan : (cs : List Call) (x : State) → exec policy cs x ≡ plan (viewOf policy) (ticks policy cs x) (gaps cs x) x
+  pub exec-plan : (cs : List Call) (x : State) → exec u cs x ≡ plan (u .view) (ticks u cs x) (gaps cs x) x
   unfolding exec ticks gaps step afterPend afterRun did plan pendAll
   exec-plan [] x = refl
   exec-plan (pend p line ∷ cs) x =
-      let y : State = step policy (pend p line) x in
+      let y : State = step u (pend p line) x in
       rw zero-add
       (exec-plan cs y
-      ∙ sym (plan-ahead (viewOf policy) (isDone (pendOutcome policy (x .memory) p line)) (ticks policy cs y) (p, line) (gaps cs y) x))
+      ∙ sym (plan-ahead (u .view) (isDone (pendOutcome u (x .memory) p line)) (ticks u cs y) (p, line) (gaps cs y) x))
   exec-plan (run n ∷ cs) x =
-      let y : State = step policy (run n) x in
+      let y : State = step u (run n) x in
       exec-plan cs y
-      ∙ sym (plan-run (viewOf policy) (isDone (runOutcome policy x n)) n (ticks policy cs y) (gaps cs y) x)
+      ∙ sym (plan-run (u .view) (isDone (runOutcome u x n)) n (ticks u cs y) (gaps cs y) x)
 
   -- A Pend that acts, after k ticks, stands in gap k.
-  has : (before after : List Call) (x : State) (p line : ℕ) → pendOutcome policy (exec policy before x .memory) p line ≡ Done
-      → List·Memᴰ (p, line) (gaps (before ++ (pend p line ∷ after)) x (ticks policy before x))
+  has : (before after : List Call) (x : State) (p line : ℕ) → pendOutcome u (exec u before x .memory) p line ≡ Done
+      → List·Memᴰ (p, line) (gaps (before ++ (pend p line ∷ after)) x (ticks u before x))
   unfolding exec ticks gaps did ahead
   has [] after x p line h = rw h (List·Memᴰ·head refl)
   has (pend q j ∷ cs) after x p line h =
-      let y : State = step policy (pend q j) x in
+      let y : State = step u (pend q j) x in
       rw zero-add
-      (ahead-keeps (isDone (pendOutcome policy (x .memory) q j)) (q, j) (gaps (cs ++ (pend p line ∷ after)) y) (ticks policy cs y)
+      (ahead-keeps (isDone (pendOutcome u (x .memory) q j)) (q, j) (gaps (cs ++ (pend p line ∷ after)) y) (ticks u cs y)
       (has cs after y p line h))
-  has (run n ∷ cs) after x p line h = rw later-at (has cs after (step policy (run n) x) p line h)
+  has (run n ∷ cs) after x p line h = rw later-at (has cs after (step u (run n) x) p line h)
 
-  pub pended→has : {cs : List Call} {x : State} {k p line : ℕ} → PendedAfter policy cs x k p line → List·Memᴰ (p, line) (gaps cs x k)
+  pub pended→has : {cs : List Call} {x : State} {k p line : ℕ} → PendedAfter u cs x k p line → List·Memᴰ (p, line) (gaps cs x k)
   pended→has {cs} {x} {k} {p} {line} h = rw (h .stands, ← h .ticks-before) (has (h .before) (h .later) x p line (h .not-refused))
 
-  here : {cs : List Call} {x : State} {k p line q j : ℕ} → pendOutcome policy (x .memory) q j ≡ Done → k ≡ 0 → _≡_ {A = Pend} (p, line) (q, j)
-      → PendedAfter policy (pend q j ∷ cs) x k p line
+  here : {cs : List Call} {x : State} {k p line q j : ℕ} → pendOutcome u (x .memory) q j ≡ Done → k ≡ 0 → _≡_ {A = Pend} (p, line) (q, j)
+      → PendedAfter u (pend q j ∷ cs) x k p line
   unfolding exec ticks
   here {cs} {x} {k} {p} {line} {q} {j} e z i =
       let u : p ≡ q = ap (λ x. x .0) i in
       let w : line ≡ j = ap (λ x. x .1) i in
       record { before = []; later = cs; stands = rw (u, w); ticks-before = sym z; not-refused = rw (u, w) e }
 
-  further : {c : Call} {cs : List Call} {x : State} {j k p line : ℕ} → did policy c x + j ≡ k → PendedAfter policy cs (step policy c x) j p line
-      → PendedAfter policy (c ∷ cs) x k p line
+  further : {c : Call} {cs : List Call} {x : State} {j k p line : ℕ} → did u c x + j ≡ k → PendedAfter u cs (step u c x) j p line
+      → PendedAfter u (c ∷ cs) x k p line
   unfolding exec ticks
   further {c} e r =
       record {
@@ -148,16 +147,16 @@ module _ (policy : Policy) where
         not-refused = r .not-refused;
       }
 
-  pub has→pended : (cs : List Call) (x : State) (k p line : ℕ) → List·Memᴰ (p, line) (gaps cs x k) → PendedAfter policy cs x k p line
+  pub has→pended : (cs : List Call) (x : State) (k p line : ℕ) → List·Memᴰ (p, line) (gaps cs x k) → PendedAfter u cs x k p line
   unfolding gaps did
   has→pended [] x k p line h = absurd (List·Memᴰ·not-nil h)
   has→pended (pend q j ∷ cs) x k p line h =
-      let y : State = step policy (pend q j) x in
+      let y : State = step u (pend q j) x in
       ⊎-elim
-      (λ w. here (is-done (pendOutcome policy (x .memory) q j) (w .0)) (w .1) (w .2))
+      (λ w. here (is-done (pendOutcome u (x .memory) q j) (w .0)) (w .1) (w .2))
       (λ t. further (zero-add k) (has→pended cs y k p line t))
-      (ahead-cases (isDone (pendOutcome policy (x .memory) q j)) (q, j) (gaps cs y) k h)
+      (ahead-cases (isDone (pendOutcome u (x .memory) q j)) (q, j) (gaps cs y) k h)
   has→pended (run n ∷ cs) x k p line h =
-      let y : State = step policy (run n) x in
-      let w = later-cases (did policy (run n) x) k (gaps cs y) h in
+      let y : State = step u (run n) x in
+      let w = later-cases (did u (run n) x) k (gaps cs y) h in
       further (w .1) (has→pended cs y (w .0) p line (w .2))

@@ -7,16 +7,16 @@ use mathlib.Core.Bool.{Bool, true, false, cond}
 use mathlib.Core.Logic.{inl, inr, _↔_}
 use mathlib.Core.List.{List, [], _∷_, List·Memᴰ}
 use lib.ListN.{length}
-use Rattle.policy.specs.declared.record.Policy.{Policy}
-use Rattle.policy.specs.Limits.{Limits, single}
+use Rattle.policy.specs.Limits.{Limits}
 use Rattle.policy.specs.View.{View}
-use Rattle.policy.specs.Record.{viewOf}
+use Rattle.policy.specs.Tables.{Tables, viewOf}
 use Rattle.policy.specs.Chain.{FlowLine, Chain, one, more}
 use Rattle.policy.specs.Lawful.{Lawful}
 use Rattle.policy.proofs.Accepted.{sound-lawful}
 use Rattle.machine.specs.Place.{isPlace, moved}
 use Rattle.machine.specs.Machine.{State, Stands, select, next}
 use Rattle.machine.proofs.OneTick.{separation, next-stands}
+use Rattle.calls.specs.Under.{Under, under}
 use Rattle.calls.specs.Outcomes.{isDone}
 use Rattle.calls.specs.Run.{stateOf, afterTicks, runOutcome, afterRun}
 use Rattle.calls.specs.Lists.{Call, pend, run, step, exec, did, ticks, SamePended, Source}
@@ -26,8 +26,8 @@ use Rattle.calls.proofs.Plan.{Pend, Gaps, filled, plan, gaps, exec-plan
 use Rattle.calls.proofs.Gap.{Named, pends-length, gap-same}
 
 pub one-tick : OneTick
-one-tick policy sound t ht x y sx sy current bytes sources =
-    separation single (viewOf policy) (sound-lawful policy sound) t x y ht sx sy current bytes sources
+one-tick limits tables sound t ht x y sx sy current bytes sources =
+    separation limits (viewOf tables) (sound-lawful limits tables sound) t x y ht sx sy current bytes sources
 
 -- A flow line into a source comes from a source.
 chain-closed : {v : View} {s u t : ℕ} → FlowLine v s u → Chain v u t → Source v t s
@@ -93,47 +93,53 @@ module _ (limits : Limits) (v : View) (W : Lawful limits v) (t : ℕ) (ht : t < 
       (λ l. next-stands limits v W (filled v (f 0) x) (record { whole = gap .whole; placed = px (omega arith) }) .placed)
       (next-keeps (filled v (f 0) x) (filled v (h 0) y) (px (omega arith)) gap)
 
-module _ (policy : Policy) where
+module _ (u : Under) where
   -- A list that does a tick does it from a place that Run takes.
-  ticks-placed : (cs : List Call) (x : State) → 0 < ticks policy cs x → isPlace (viewOf policy) (x .place) ≡ true
+  ticks-placed : (cs : List Call) (x : State) → 0 < ticks u cs x → isPlace (u .view) (x .place) ≡ true
   unfolding ticks did step afterRun
   ticks-placed [] x h = absurd (omega arith)
-  ticks-placed (pend p line ∷ cs) x h = ticks-placed cs (step policy (pend p line) x) (omega arith)
-  ticks-placed (run n ∷ cs) x h = go (isDone (runOutcome policy x n)) refl h (λ i. ticks-placed cs x i)
+  ticks-placed (pend p line ∷ cs) x h = ticks-placed cs (step u (pend p line) x) (omega arith)
+  ticks-placed (run n ∷ cs) x h = go (isDone (runOutcome u x n)) refl h (λ i. ticks-placed cs x i)
     where
-      go : (b : Bool) → isDone (runOutcome policy x n) ≡ b → 0 < cond b n 0 + ticks policy cs (cond b (afterTicks (viewOf policy) n x) x)
-          → (0 < ticks policy cs x → isPlace (viewOf policy) (x .place) ≡ true) → isPlace (viewOf policy) (x .place) ≡ true
-      go true e i below = run-place policy x n (is-done (runOutcome policy x n) e)
+      go : (b : Bool) → isDone (runOutcome u x n) ≡ b → 0 < cond b n 0 + ticks u cs (cond b (afterTicks (u .view) n x) x)
+          → (0 < ticks u cs x → isPlace (u .view) (x .place) ≡ true) → isPlace (u .view) (x .place) ≡ true
+      go true e i below = run-place u x n (is-done (runOutcome u x n) e)
       go false e i below = below (omega arith)
 
-  gaps-named : (cs : List Call) (x : State) (k : ℕ) → Named (viewOf policy) (gaps policy cs x k)
-  gaps-named cs x k z i = pend-partition policy _ (z .0) (z .1) (has→pended policy cs x k (z .0) (z .1) i .not-refused)
+  gaps-named : (cs : List Call) (x : State) (k : ℕ) → Named (u .view) (gaps u cs x k)
+  gaps-named cs x k z i = pend-partition u _ (z .0) (z .1) (has→pended u cs x k (z .0) (z .1) i .not-refused)
 
 -- What the relation gives at the end.
-end-alike : (policy : Policy) (t : ℕ) (x y : State) → Same single (viewOf policy) t x y → EndAlike policy t x y
-end-alike policy t x y r =
+end-alike : (limits : Limits) (v : View) (t : ℕ) (x y : State) → Same limits v t x y → EndAlike v t x y
+end-alike limits v t x y r =
     record { same-bytes = r .bytes t (inl refl); same-slot = ap (λ a. a .slot) (r .place); same-used = ap (λ a. a .used) (r .place) }
 
 pub whole-runs : WholeRuns
 unfolding SamePended
-whole-runs policy sound t ht cs ds m n place lm ln alike = end-alike policy t (exec policy cs x) (exec policy ds y) ends
+whole-runs limits tables sound t ht cs ds m n place lm ln alike = end-alike limits v t (exec u cs x) (exec u ds y) ends
   where
+    u : Under
+    u = under limits tables
+
+    v : View
+    v = viewOf tables
+
     x : State
     x = stateOf m place
 
     y : State
     y = stateOf n place
 
-    begins : Same single (viewOf policy) t x y
+    begins : Same limits v t x y
     begins = record { bytes = alike .same-sources; place = refl; whole = lm; whole′ = ln }
 
-    lines : (k : ℕ) → k ≤ ticks policy cs x → SameGap (viewOf policy) t (gaps policy cs x k) (gaps policy ds y k)
+    lines : (k : ℕ) → k ≤ ticks u cs x → SameGap v t (gaps u cs x k) (gaps u ds y k)
     lines k l p line hp c =
         let w = alike .same-lines p hp c k l line in
-        (λ i. pended→has policy (w .0 (has→pended policy cs x k p line i)), λ i. pended→has policy (w .1 (has→pended policy ds y k p line i)))
+        (λ i. pended→has u (w .0 (has→pended u cs x k p line i)), λ i. pended→has u (w .1 (has→pended u ds y k p line i)))
 
-    ends : Same single (viewOf policy) t (exec policy cs x) (exec policy ds y)
+    ends : Same limits v t (exec u cs x) (exec u ds y)
     ends =
-        rw (exec-plan policy cs x, exec-plan policy ds y, ← alike .same-ticks)
-        (plan-keeps single (viewOf policy) (sound-lawful policy sound) t ht (ticks policy cs x) (gaps policy cs x) (gaps policy ds y) x y
-        (gaps-named policy cs x) (gaps-named policy ds y) lines (ticks-placed policy cs x) begins)
+        rw (exec-plan u cs x, exec-plan u ds y, ← alike .same-ticks)
+        (plan-keeps limits v (sound-lawful limits tables sound) t ht (ticks u cs x) (gaps u cs x) (gaps u ds y) x y
+        (gaps-named u cs x) (gaps-named u ds y) lines (ticks-placed u cs x) begins)

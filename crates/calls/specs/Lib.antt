@@ -1,5 +1,6 @@
--- In reading order: what an operation answers, the three operations, lists of calls, and the separation that demand 3
+-- In reading order: what the operations ask of a record, what they answer, the three operations, lists of calls, and the separation that demand 3
 -- asks.
+pub mod Under
 pub mod Outcomes
 pub mod Start
 pub mod Pend

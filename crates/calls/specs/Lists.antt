@@ -3,10 +3,10 @@ use Prim.Native.Nat.{ℕ, _+_, _≤_}
 use mathlib.Core.Path.{_≡_}
 use mathlib.Core.Logic.{_⊎_, _↔_}
 use mathlib.Core.List.{List, [], _∷_, _++_}
-use Rattle.policy.specs.declared.record.Policy.{Policy}
 use Rattle.policy.specs.View.{View}
 use Rattle.policy.specs.Chain.{Chain}
 use Rattle.machine.specs.Machine.{State}
+use Rattle.calls.specs.Under.{Under}
 use Rattle.calls.specs.declared.Outcome.the-variants.{Done}
 use Rattle.calls.specs.Outcomes.{acts}
 use Rattle.calls.specs.Pend.{pendOutcome, afterPend}
@@ -18,11 +18,11 @@ pub data Call : Type 0 where
   -- Run that many ticks
   run : ℕ → Call
 
-module _ (policy : Policy) where
+module _ (u : Under) where
   -- "Each call gets the memory that the call before left, each Run the place that the Run before returned"
   unfoldable pub step : Call → State → State
-  step (pend partition line) x = stateOf (afterPend policy (x .memory) partition line) (x .place)
-  step (run n) x = afterRun policy x n
+  step (pend partition line) x = stateOf (afterPend u (x .memory) partition line) (x .place)
+  step (run n) x = afterRun u x n
 
   unfoldable pub exec : List Call → State → State
   exec [] x = x
@@ -31,7 +31,7 @@ module _ (policy : Policy) where
   -- "A Run that acts does its n ticks, a refused one none."
   unfoldable pub did : Call → State → ℕ
   did (pend partition line) x = 0
-  did (run n) x = acts (runOutcome policy x n) n 0
+  did (run n) x = acts (runOutcome u x n) n 0
 
   -- The ticks of a list in all.
   unfoldable pub ticks : List Call → State → ℕ
@@ -45,7 +45,7 @@ module _ (policy : Policy) where
     pub later : List Call
     pub stands : cs ≡ before ++ (pend p line ∷ later)
     pub ticks-before : ticks before x ≡ k
-    pub not-refused : pendOutcome policy (exec before x .memory) p line ≡ Done
+    pub not-refused : pendOutcome u (exec before x .memory) p line ≡ Done
 
   -- ""The same lines pended between the same ticks" means: for each k from 0 to the ticks in all, the same lines are
   -- pended for p after k ticks in both lists."

@@ -5,9 +5,8 @@ use mathlib.Core.Bool.{Bool, true, false, not, cond}
 use mathlib.Core.List.{List}
 use lib.ListN.{length}
 use lib.Dec.{eqb}
-use Rattle.policy.specs.declared.record.Policy.{Policy}
 use Rattle.policy.specs.Limits.{Limits}
-use Rattle.policy.specs.Sound.{soundOf}
+use Rattle.calls.specs.Under.{Under}
 use Rattle.calls.specs.declared.Outcome.{Outcome}
 use Rattle.calls.specs.declared.Outcome.the-variants.{Done, WrongMemory, Unsound, NoPartition, NoLine, NoPlace}
 use Rattle.calls.specs.declared.Outcome.the-variants.{TooManyTicks}
@@ -36,8 +35,8 @@ abbrev pub wrongMemory : Limits → List ℕ → Bool
 wrongMemory limits memory = not (eqb (length memory) (limits .memory))
 
 -- "10: the record is that of no accepted text"
-abbrev pub unsound : Policy → Bool
-unsound policy = not (soundOf policy)
+abbrev pub unsound : Under → Bool
+unsound u = not (u .sound)
 
 -- "When they refuse they return the number and change no byte of memory."
 abbrev pub acts {ℓ} : {A : Type ℓ} → Outcome → A → A → A

@@ -5,12 +5,10 @@ use mathlib.Core.List.{List, [], _∷_}
 use lib.Bits.{bitOr}
 use lib.ListN.{getD, set}
 use lib.Dec.{leb, ltb}
-use Rattle.policy.specs.declared.record.Policy.{Policy}
 use Rattle.policy.specs.First.{firstOf}
-use Rattle.policy.specs.Limits.{single}
 use Rattle.policy.specs.View.{View}
-use Rattle.policy.specs.Record.{viewOf}
 use Rattle.machine.specs.Layout.{layout}
+use Rattle.calls.specs.Under.{Under}
 use Rattle.calls.specs.declared.Outcome.{Outcome}
 use Rattle.calls.specs.declared.Outcome.the-variants.{Done, WrongMemory, Unsound, NoPartition, NoLine}
 use Rattle.calls.specs.Outcomes.{wrongMemory, unsound, acts}
@@ -19,12 +17,12 @@ use Rattle.calls.specs.Outcomes.{wrongMemory, unsound, acts}
 abbrev pub lastLine : ℕ
 lastLine = 7
 
-unfoldable pub pendOutcome : Policy → List ℕ → ℕ → ℕ → Outcome
-pendOutcome policy memory partition line =
+unfoldable pub pendOutcome : Under → List ℕ → ℕ → ℕ → Outcome
+pendOutcome u memory partition line =
     firstOf Done
-    (record { applies = wrongMemory single memory; answer = WrongMemory }
-    ∷ record { applies = unsound policy; answer = Unsound }
-    ∷ record { applies = leb (policy .partitions) partition; answer = NoPartition }
+    (record { applies = wrongMemory (u .limits) memory; answer = WrongMemory }
+    ∷ record { applies = unsound u; answer = Unsound }
+    ∷ record { applies = leb (u .view .partitions) partition; answer = NoPartition }
     ∷ record { applies = ltb lastLine line; answer = NoLine }
     ∷ [])
 
@@ -38,6 +36,6 @@ withLine v partition line memory =
     set memory (pendedAt v partition) (bitOr (getD memory (pendedAt v partition) 0) (2 ^ line))
 
 -- Memory after a Pend.
-unfoldable pub afterPend : Policy → List ℕ → ℕ → ℕ → List ℕ
-afterPend policy memory partition line =
-    acts (pendOutcome policy memory partition line) (withLine (viewOf policy) partition line memory) memory
+unfoldable pub afterPend : Under → List ℕ → ℕ → ℕ → List ℕ
+afterPend u memory partition line =
+    acts (pendOutcome u memory partition line) (withLine (u .view) partition line memory) memory

@@ -4,14 +4,12 @@ use Prim.Native.Nat.{ℕ, zero, suc}
 use mathlib.Core.Bool.{not}
 use mathlib.Core.List.{List, [], _∷_}
 use lib.Dec.{ltb}
-use Rattle.policy.specs.declared.record.Policy.{Policy}
 use Rattle.policy.specs.First.{firstOf}
-use Rattle.policy.specs.Limits.{single}
 use Rattle.policy.specs.View.{View}
-use Rattle.policy.specs.Record.{viewOf}
 use Rattle.machine.specs.declared.Place.{Place}
 use Rattle.machine.specs.Place.{isPlace}
 use Rattle.machine.specs.Machine.{State, next}
+use Rattle.calls.specs.Under.{Under}
 use Rattle.calls.specs.declared.Outcome.{Outcome}
 use Rattle.calls.specs.declared.Outcome.the-variants.{Done, WrongMemory, Unsound, NoPlace, TooManyTicks}
 use Rattle.calls.specs.declared.Placed.{Placed}
@@ -24,12 +22,12 @@ stateOf memory place = record { memory = memory; place = place }
 abbrev pub mostTicksOfRun : ℕ
 mostTicksOfRun = 10000
 
-unfoldable pub runOutcome : Policy → State → ℕ → Outcome
-runOutcome policy x n =
+unfoldable pub runOutcome : Under → State → ℕ → Outcome
+runOutcome u x n =
     firstOf Done
-    (record { applies = wrongMemory single (x .memory); answer = WrongMemory }
-    ∷ record { applies = unsound policy; answer = Unsound }
-    ∷ record { applies = not (isPlace (viewOf policy) (x .place)); answer = NoPlace }
+    (record { applies = wrongMemory (u .limits) (x .memory); answer = WrongMemory }
+    ∷ record { applies = unsound u; answer = Unsound }
+    ∷ record { applies = not (isPlace (u .view) (x .place)); answer = NoPlace }
     ∷ record { applies = ltb mostTicksOfRun n; answer = TooManyTicks }
     ∷ [])
 
@@ -39,8 +37,8 @@ afterTicks v zero x = x
 afterTicks v (suc n) x = afterTicks v n (next v x)
 
 -- Memory and place after a Run. "A refused Run returns the place it was given".
-unfoldable pub afterRun : Policy → State → ℕ → State
-afterRun policy x n = acts (runOutcome policy x n) (afterTicks (viewOf policy) n x) x
+unfoldable pub afterRun : Under → State → ℕ → State
+afterRun u x n = acts (runOutcome u x n) (afterTicks (u .view) n x) x
 
-unfoldable pub runAnswer : Policy → State → ℕ → Placed
-runAnswer policy x n = record { outcome = runOutcome policy x n; place = afterRun policy x n .place }
+unfoldable pub runAnswer : Under → State → ℕ → Placed
+runAnswer u x n = record { outcome = runOutcome u x n; place = afterRun u x n .place }

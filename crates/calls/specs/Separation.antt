@@ -3,12 +3,13 @@ use Prim.Native.Nat.{ℕ, _<_}
 use mathlib.Core.Path.{_≡_}
 use mathlib.Core.List.{List}
 use lib.ListN.{length}
-use Rattle.policy.specs.declared.record.Policy.{Policy}
-use Rattle.policy.specs.Limits.{single}
-use Rattle.policy.specs.Record.{viewOf}
+use Rattle.policy.specs.Limits.{Limits}
+use Rattle.policy.specs.View.{View}
+use Rattle.policy.specs.Tables.{Tables, viewOf}
 use Rattle.policy.specs.Sound.{Sound}
 use Rattle.machine.specs.declared.Place.{Place}
 use Rattle.machine.specs.Machine.{State, Segs, Dia, Stands, current, select, next}
+use Rattle.calls.specs.Under.{Under, under}
 use Rattle.calls.specs.Run.{stateOf}
 use Rattle.calls.specs.Lists.{Call, exec, ticks, SamePended, Source}
 
@@ -17,40 +18,40 @@ use Rattle.calls.specs.Lists.{Call, exec, ticks, SamePended, Source}
 -- after one tick of that machine". The two places may differ in slot and ticks used.
 abbrev pub OneTick : Type 0
 OneTick =
-    (policy : Policy) → Sound policy →
-    (t : ℕ) → t < policy .segments →
-    (x y : State) → Stands single (viewOf policy) x → Stands single (viewOf policy) y →
-    current (viewOf policy) x ≡ current (viewOf policy) y →
-    select (viewOf policy) t x ≡ select (viewOf policy) t y →
-    ((s : ℕ) → Segs (viewOf policy) (current (viewOf policy) x) s → Dia (viewOf policy) t s →
-    select (viewOf policy) s x ≡ select (viewOf policy) s y) →
-    select (viewOf policy) t (next (viewOf policy) x) ≡ select (viewOf policy) t (next (viewOf policy) y)
+    (limits : Limits) (tables : Tables) → Sound limits tables →
+    (t : ℕ) → t < viewOf tables .segments →
+    (x y : State) → Stands limits (viewOf tables) x → Stands limits (viewOf tables) y →
+    current (viewOf tables) x ≡ current (viewOf tables) y →
+    select (viewOf tables) t x ≡ select (viewOf tables) t y →
+    ((s : ℕ) → Segs (viewOf tables) (current (viewOf tables) x) s → Dia (viewOf tables) t s →
+    select (viewOf tables) s x ≡ select (viewOf tables) s y) →
+    select (viewOf tables) t (next (viewOf tables) x) ≡ select (viewOf tables) t (next (viewOf tables) y)
 
 -- What two lists and the states that they begin in have in common.
-pub record Alike (policy : Policy) (t : ℕ) (cs : List Call) (x : State) (ds : List Call) (y : State) : Type 0 where
+pub record Alike (u : Under) (t : ℕ) (cs : List Call) (x : State) (ds : List Call) (y : State) : Type 0 where
   -- "with equally many ticks in all"
-  pub same-ticks : ticks policy cs x ≡ ticks policy ds y
+  pub same-ticks : ticks u cs x ≡ ticks u ds y
   -- "Let a segment and all segments from which a chain of flow lines leads to it begin equal"
-  pub same-sources : (s : ℕ) → Source (viewOf policy) t s → select (viewOf policy) s x ≡ select (viewOf policy) s y
+  pub same-sources : (s : ℕ) → Source (u .view) t s → select (u .view) s x ≡ select (u .view) s y
   -- "and let each partition whose save segment is among these have the same lines pended between the same ticks; all
   -- other pended lines may differ"
-  pub same-lines : (p : ℕ) → p < policy .partitions → Source (viewOf policy) t (viewOf policy .save p) →
-      SamePended policy cs x ds y (ticks policy cs x) p
+  pub same-lines : (p : ℕ) → p < u .view .partitions → Source (u .view) t (u .view .save p) →
+      SamePended u cs x ds y (ticks u cs x) p
 
 -- "Then that segment has the same bytes after both lists, and the schedule stands at the same slot and ticks used."
-pub record EndAlike (policy : Policy) (t : ℕ) (x y : State) : Type 0 where
-  pub same-bytes : select (viewOf policy) t x ≡ select (viewOf policy) t y
+pub record EndAlike (v : View) (t : ℕ) (x y : State) : Type 0 where
+  pub same-bytes : select v t x ≡ select v t y
   pub same-slot : x .place .slot ≡ y .place .slot
   pub same-used : x .place .used ≡ y .place .used
 
 -- "take, under one accepted policy, any two lists of Pend and Run calls, refused ones included, each call taking over
 -- what the last one left, from one schedule place". The place is any, also one that 13 refuses; each list begins with
--- any memory of 16,384 bytes.
+-- any memory of the head's size.
 abbrev pub WholeRuns : Type 0
 WholeRuns =
-    (policy : Policy) → Sound policy →
-    (t : ℕ) → t < policy .segments →
+    (limits : Limits) (tables : Tables) → Sound limits tables →
+    (t : ℕ) → t < viewOf tables .segments →
     (cs ds : List Call) (m n : List ℕ) (place : Place) →
-    length m ≡ single .memory → length n ≡ single .memory →
-    Alike policy t cs (stateOf m place) ds (stateOf n place) →
-    EndAlike policy t (exec policy cs (stateOf m place)) (exec policy ds (stateOf n place))
+    length m ≡ limits .memory → length n ≡ limits .memory →
+    Alike (under limits tables) t cs (stateOf m place) ds (stateOf n place) →
+    EndAlike (viewOf tables) t (exec (under limits tables) cs (stateOf m place)) (exec (under limits tables) ds (stateOf n place))

@@ -11,7 +11,7 @@ use Rattle.policy.specs.Draft.{added}
 use Rattle.policy.specs.Order.{outOfOrder}
 use Rattle.policy.specs.Range.{outOfRange}
 use Rattle.policy.specs.Read.{lineRefusal, wholeRefusal, readLines, readBy}
-use Rattle.policy.specs.Sound.{goodSegment, goodPartition, goodSlot, goodRight, goodFlow, allZero, isShaped, countsFit, unusedZero, linesHold, soundOf}
+use Rattle.policy.specs.Sound.{goodSegment, goodPartition, goodSlot, goodRight, goodFlow, allZero, isShaped, countsFit, unusedZero, allUnder, masksFit, linesHold, soundOf}
 use Rattle.policy.specs.Whole.{incomplete, codeUnreadable, flowMissing}
 use Rattle.bytes.specs.Numbers.{half, word, withHalf, withWord}
 use Rattle.machine.specs.Decode.{operandFits, operandsFit, instructionOf, decodeOf, fetched}
@@ -25,5 +25,5 @@ use Rattle.calls.specs.Start.{startOutcome, cleared, afterStart, startAnswer}
 use Rattle.cases.specs.Cases.{allHold, cases, holds}
 
 pub claim : T (allHold cases)
-unfolding holds same cut segmentLine partitionLine rightLine flowLine slotLine wordOf lineBy linesOfPieces linesBy allDigits isNumber valueFrom decimal beginsHex hexadecimal number letters someBelow eachBelow clashes added outOfOrder outOfRange lineRefusal wholeRefusal readLines readBy goodSegment goodPartition goodSlot goodRight goodFlow allZero isShaped countsFit unusedZero linesHold soundOf incomplete codeUnreadable flowMissing half word withHalf withWord operandFits operandsFit instructionOf decodeOf fetched faults advanced resulted jumps waits comesBack actsOn takesInterrupt entered interrupted isReady next isPlace moved reaches looks loads storesByte executes obeys steps effect tickOf runOutcome afterTicks afterRun runAnswer startOutcome cleared afterStart startAnswer trailingZeros
+unfolding holds same cut segmentLine partitionLine rightLine flowLine slotLine wordOf lineBy linesOfPieces linesBy allDigits isNumber valueFrom decimal beginsHex hexadecimal number letters someBelow eachBelow clashes added outOfOrder outOfRange lineRefusal wholeRefusal readLines readBy goodSegment goodPartition goodSlot goodRight goodFlow allZero isShaped countsFit unusedZero allUnder masksFit linesHold soundOf incomplete codeUnreadable flowMissing half word withHalf withWord operandFits operandsFit instructionOf decodeOf fetched faults advanced resulted jumps waits comesBack actsOn takesInterrupt entered interrupted isReady next isPlace moved reaches looks loads storesByte executes obeys steps effect tickOf runOutcome afterTicks afterRun runAnswer startOutcome cleared afterStart startAnswer trailingZeros
 claim = tt

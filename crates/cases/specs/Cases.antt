@@ -7,12 +7,13 @@ use lib.ListN.{length, getD, take, drop, set, replicate}
 use lib.Seq.{sets}
 use lib.Dec.{eqb}
 use Rattle.text.specs.Bytes.{bytesOf, same}
-use Rattle.policy.specs.declared.record.Policy.{Policy}
 use Rattle.policy.specs.Limits.{single}
 use Rattle.policy.specs.Refusals.{numberOf, lineNumberOf, isAccepted}
+use Rattle.policy.specs.Tables.{Tables}
 use Rattle.policy.specs.Read.{readOf}
 use Rattle.machine.specs.Place.{placeOf}
 use Rattle.machine.specs.Machine.{State}
+use Rattle.calls.specs.Under.{Under, under}
 use Rattle.calls.specs.Start.{afterStart}
 use Rattle.calls.specs.Run.{stateOf, afterRun}
 use Rattle.cases.specs.Demonstration.{joined, demonstration, inHexadecimal}
@@ -42,8 +43,8 @@ pub data Case : Type 0 where
   -- two different texts, both accepted, with one record
   alike : List ℕ → List ℕ → Case
 
-abbrev pub policy : Policy
-policy = readOf single (joined demonstration) .policy
+abbrev pub policy : Under
+policy = under single (readOf single (joined demonstration) .tables)
 
 -- The state after a Start and a Run.
 abbrev pub ran : List Bytes → List Bytes → ℕ → State
@@ -51,12 +52,21 @@ ran before after n =
     afterRun policy (stateOf (with (afterStart policy (with (replicate 16384 0) before)) after) (placeOf 0 0)) n
 
 -- Whether two records have the same entries.
-abbrev pub samePolicy : Policy → Policy → Bool
-samePolicy p q =
-    eqb (p .segments) (q .segments) && eqb (p .partitions) (q .partitions) && eqb (p .slots) (q .slots)
-    && same (p .base) (q .base) && same (p .size) (q .size) && same (p .code) (q .code) && same (p .save) (q .save)
-    && same (p .owner) (q .owner) && same (p .ticks) (q .ticks) && same (p .rights) (q .rights)
-    && same (p .flows) (q .flows)
+abbrev pub sameTables : Tables → Tables → Bool
+sameTables t u =
+    eqb (t .segments .count) (u .segments .count)
+    && same (t .segments .base) (u .segments .base)
+    && same (t .segments .size) (u .segments .size)
+    && eqb (t .partitions .count) (u .partitions .count)
+    && same (t .partitions .code) (u .partitions .code)
+    && same (t .partitions .save) (u .partitions .save)
+    && eqb (t .slots .count) (u .slots .count)
+    && same (t .slots .owner) (u .slots .owner)
+    && same (t .slots .ticks) (u .slots .ticks)
+    && same (t .rights .reads) (u .rights .reads)
+    && same (t .rights .writes) (u .rights .writes)
+    && same (t .flows .sources) (u .flows .sources)
+    && eqb (t .unused) (u .unused)
 
 unfoldable pub holds : Case → Bool
 holds (reads text n line) =
@@ -68,7 +78,7 @@ holds (runs before after n bytes slot used) =
 holds (alike text other) =
     let r = readOf single text in
     let o = readOf single other in
-    not (same text other) && isAccepted (r .refusal) && isAccepted (o .refusal) && samePolicy (r .policy) (o .policy)
+    not (same text other) && isAccepted (r .refusal) && isAccepted (o .refusal) && sameTables (r .tables) (o .tables)
 
 abbrev pub allHold : List Case → Bool
 allHold [] = true

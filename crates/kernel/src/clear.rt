@@ -12,13 +12,19 @@ ghost use mathlib.Core.Path.{_≡_};
 ghost use mathlib.Core.Bool.{true};
 ghost use lib.ListN.{length};
 ghost use Rattle.policy.specs.Limits.{single};
-ghost use Rattle.policy.specs.Record.{viewOf};
+ghost use Rattle.policy.specs.Tables.{viewOf};
+ghost use Rattle.policy.specs.Record.{tablesOf};
 ghost use Rattle.policy.specs.Sound.{soundOf};
+ghost use Rattle.calls.specs.Under.{underPolicy};
 ghost use Rattle.calls.specs.Start.{cleared, startAnswer, afterStart};
 
 fn clear_saves(policy: Policy, memory: &mut [u8])
-    requires { ⌜ (soundOf policy ≡ true) × (length (now memory) ≡ single .memory) ⌝ }
-    ensures { λ _. ⌜ now (memory .exit) ≡ cleared (viewOf policy) (policy .partitions) (now (memory .entry)) ⌝ }
+    requires { ⌜ (soundOf single (tablesOf policy) ≡ true) × (length (now memory) ≡ single .memory) ⌝ }
+    ensures { λ _.
+        ⌜
+        now (memory .exit)
+        ≡ cleared (viewOf (tablesOf policy)) (policy .partitions) (now (memory .entry))
+        ⌝ }
 {
     let count = policy.partitions as usize;
     let mut i = 0;
@@ -33,8 +39,8 @@ fn clear_saves(policy: Policy, memory: &mut [u8])
 pub fn start(policy: Policy, memory: &mut [u8]) -> Placed
     ensures { λ r.
         ⌜
-        (r ≡ startAnswer policy (now (memory .entry)))
-        × (now (memory .exit) ≡ afterStart policy (now (memory .entry)))
+        (r ≡ startAnswer (underPolicy policy) (now (memory .entry)))
+        × (now (memory .exit) ≡ afterStart (underPolicy policy) (now (memory .entry)))
         ⌝ }
 {
     let place = Place { slot: 0, used: 0 };

@@ -9,13 +9,14 @@ use policy::Policy;
 use savearea::layout::PENDED;
 use validate::passes_test;
 ghost use mathlib.Core.Path.{_≡_};
+ghost use Rattle.calls.specs.Under.{underPolicy};
 ghost use Rattle.calls.specs.Pend.{pendOutcome, afterPend};
 
 pub fn pend(policy: Policy, memory: &mut [u8], partition: u32, line: u32) -> Outcome
     ensures { λ r.
         ⌜
-        (r ≡ pendOutcome policy (now (memory .entry)) partition line)
-        × (now (memory .exit) ≡ afterPend policy (now (memory .entry)) partition line)
+        (r ≡ pendOutcome (underPolicy policy) (now (memory .entry)) partition line)
+        × (now (memory .exit) ≡ afterPend (underPolicy policy) (now (memory .entry)) partition line)
         ⌝ }
 {
     if memory.len() != MEMORY {

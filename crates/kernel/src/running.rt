@@ -14,37 +14,39 @@ ghost use mathlib.Core.Path.{_≡_};
 ghost use mathlib.Core.Bool.{true};
 ghost use lib.ListN.{length};
 ghost use Rattle.policy.specs.Limits.{single};
-ghost use Rattle.policy.specs.Record.{viewOf};
+ghost use Rattle.policy.specs.Tables.{viewOf};
+ghost use Rattle.policy.specs.Record.{tablesOf};
 ghost use Rattle.policy.specs.Sound.{soundOf};
 ghost use Rattle.machine.specs.Machine.{Stands};
 ghost use Rattle.tick.specs.Seat.{seatOf, Seated};
+ghost use Rattle.calls.specs.Under.{underPolicy};
 ghost use Rattle.calls.specs.Run.{stateOf, afterTicks, runAnswer, afterRun};
 ghost use Rattle.kernel.specs.Stretch.{tickedBy};
 
-// n ticks of the partition with this code and this save segment, and its rights from `row` on. After one that does
-// nothing the others do nothing either.
+// n ticks of the partition with this code, this save segment and these masks. After one that does nothing the others do
+// nothing either.
 fn stretch<'a>(
     memory: &mut [u8],
-    base: &'a [u16; 32],
-    size: &'a [u16; 32],
-    rights: &'a [u8; 256],
+    base: &'a [u16],
+    size: &'a [u16],
+    reads: u64,
+    writes: u64,
     segments: u8,
-    row: u16,
     code: u8,
     save: u8,
     n: u32,
 )
-    requires { ⌜ Seated (now base) (now size) segments row code save (length (now memory)) ⌝ }
+    requires { ⌜ Seated (now base) (now size) segments code save (length (now memory)) ⌝ }
     ensures { λ _.
         ⌜
         now (memory .exit)
-        ≡ tickedBy (seatOf (now (base .entry)) (now (size .entry)) (now (rights .entry)) segments row) code save n
+        ≡ tickedBy (seatOf (now (base .entry)) (now (size .entry)) reads writes segments) code save n
         (now (memory .entry))
         ⌝ }
 {
     let mut i: u32 = 0;
     while i < n {
-        if !tick(memory, base, size, rights, segments, row, code, save) {
+        if !tick(memory, base, size, reads, writes, segments, code, save) {
             return;
         }
         i += 1;
@@ -52,10 +54,14 @@ fn stretch<'a>(
 }
 
 fn run_ticks(policy: Policy, memory: &mut [u8], place: Place, n: u32) -> Place
-    requires { ⌜ (soundOf policy ≡ true) × Stands single (viewOf policy) (stateOf (now memory) place) ⌝ }
+    requires { ⌜
+        (soundOf single (tablesOf policy) ≡ true)
+        × Stands single (viewOf (tablesOf policy)) (stateOf (now memory) place)
+        ⌝ }
     ensures { λ r.
         ⌜
-        stateOf (now (memory .exit)) r ≡ afterTicks (viewOf policy) n (stateOf (now (memory .entry)) place)
+        stateOf (now (memory .exit)) r
+        ≡ afterTicks (viewOf (tablesOf policy)) n (stateOf (now (memory .entry)) place)
         ⌝ }
 {
     let mut here = place;
@@ -65,15 +71,17 @@ fn run_ticks(policy: Policy, memory: &mut [u8], place: Place, n: u32) -> Place
         let owner = policy.owner[slot] as usize;
         let code = policy.code[owner];
         let save = policy.save[owner];
+        let reads = policy.reads[owner] as u64;
+        let writes = policy.writes[owner] as u64;
         let ticks = policy.ticks[slot];
         let count = lesser(left, ticks as u32 - here.used);
         stretch(
             memory,
             &policy.base,
             &policy.size,
-            &policy.rights,
+            reads,
+            writes,
             policy.segments,
-            32 * (owner as u16),
             code,
             save,
             count,
@@ -87,8 +95,8 @@ fn run_ticks(policy: Policy, memory: &mut [u8], place: Place, n: u32) -> Place
 pub fn run(policy: Policy, memory: &mut [u8], place: Place, n: u32) -> Placed
     ensures { λ r.
         ⌜
-        (r ≡ runAnswer policy (stateOf (now (memory .entry)) place) n)
-        × (now (memory .exit) ≡ afterRun policy (stateOf (now (memory .entry)) place) n .memory)
+        (r ≡ runAnswer (underPolicy policy) (stateOf (now (memory .entry)) place) n)
+        × (now (memory .exit) ≡ afterRun (underPolicy policy) (stateOf (now (memory .entry)) place) n .memory)
         ⌝ }
 {
     if memory.len() != MEMORY {

@@ -1,2 +1,2 @@
--- What the rules for a line read of a draft, and what a line has to meet so that it can be added.
+-- What the rules for a line read of a record, and what a line has to meet so that it can be added.
 pub mod Parts

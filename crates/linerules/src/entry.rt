@@ -10,9 +10,12 @@ ghost use mathlib.Core.Path.{_≡_};
 ghost use mathlib.Core.List.{[]};
 ghost use Rattle.policy.specs.Limits.{single};
 ghost use Rattle.policy.specs.Sound.{goodSegment, goodPartition, goodSlot};
-ghost use Rattle.linerules.specs.Parts.{placed, scheduled};
+ghost use Rattle.linerules.specs.Parts.{EndedBy, placed, scheduled};
 
-pub fn segment_passes<'a>(bases: &'a [u16], sizes: &'a [u16], i: u8) -> bool
+// The segments before have ended at `end`. One that begins there or later overlaps none of them, so segments in the order
+// of their bases need one test each.
+pub fn segment_passes<'a>(bases: &'a [u16], sizes: &'a [u16], i: u8, end: u32) -> bool
+    requires { ⌜ EndedBy (now bases) (now sizes) i end ⌝ }
     ensures { λ r. ⌜ r ≡ goodSegment single (placed 0 0 (now (bases .entry)) (now (sizes .entry)) [] []) i ⌝ }
 {
     let base = half_at(bases, i as usize) as u32;
@@ -20,6 +23,9 @@ pub fn segment_passes<'a>(bases: &'a [u16], sizes: &'a [u16], i: u8) -> bool
     // Left early, so that the loop below is known to stay inside the arrays, and many entries are tested at once.
     if segment_outside(i, base, size) {
         return false;
+    }
+    if end <= base {
+        return true;
     }
     !overlaps_earlier(i, bases, sizes, base, size)
 }

@@ -8,7 +8,7 @@ use text::Line;
 ghost use mathlib.Core.Path.{_≡_};
 ghost use Rattle.policy.specs.Limits.{single};
 ghost use Rattle.policy.specs.Read.{isBad, lineRefusal};
-ghost use Rattle.linerules.specs.Parts.{partDraft};
+ghost use Rattle.linerules.specs.Parts.{partView};
 
 fn is_bad(line: Line) -> bool
     ensures { λ r. ⌜ r ≡ isBad line ⌝ }
@@ -37,16 +37,15 @@ pub fn line_refusal<'a>(
     n: u32,
 ) -> Refusal
     ensures { λ r. ⌜ r ≡
-        lineRefusal single n
-        (partDraft
+        lineRefusal single n before
+        (partView
         segments
         partitions
         slots
         (now (base .entry))
         (now (size .entry))
         (now (code .entry))
-        (now (save .entry))
-        before)
+        (now (save .entry)))
         line ⌝ }
 {
     if is_bad(line) {

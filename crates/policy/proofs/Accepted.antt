@@ -4,30 +4,25 @@ use Prim.Native.Nat.{ℕ, _+_}
 use mathlib.Core.Path.{_≡_, refl, sym, _∙_, ap}
 use mathlib.Core.Bool.{Bool, true, false, cond, true≢false}
 use mathlib.Core.List.{List, [], _∷_}
-use lib.ListN.{length}
-use lib.Dec.{ltb}
 use Rattle.text.specs.Lines.{linesOf}
-use Rattle.text.specs.Number.{number}
 use Rattle.text.specs.declared.line.Line.{Line}
 use Rattle.text.specs.declared.line.Line.the-variants.{Bad, Segment, Partition, Right, Flow, Slot}
-use Rattle.policy.specs.declared.record.Policy.{Policy}
-use Rattle.policy.specs.declared.record.Draft.{Draft}
-use Rattle.policy.specs.declared.record.Reading.{Reading}
+use Rattle.policy.specs.declared.record.Key.{Key}
 use Rattle.policy.specs.declared.record.Refusal.{Refusal}
 use Rattle.policy.specs.declared.record.Refusal.the-variants.{Accepted, TooLong, Malformed, OutOfOrder, OutOfRange, Clash}
-use Rattle.policy.specs.Limits.{single}
+use Rattle.policy.specs.Limits.{Limits}
+use Rattle.policy.specs.View.{View}
 use Rattle.policy.specs.Order.{outOfOrder}
 use Rattle.policy.specs.Range.{outOfRange}
 use Rattle.policy.specs.Clash.{clashes}
-use Rattle.policy.specs.Record.{zeros, viewOf}
-use Rattle.policy.specs.Draft.{added, begun, after}
+use Rattle.policy.specs.Tables.{Tables, zeros, viewOf}
+use Rattle.policy.specs.Draft.{Draft, added, begun, after}
 use Rattle.policy.specs.Refusals.{isAccepted}
-use Rattle.policy.specs.Read.{isBad, lineRefusal, wholeRefusal, answer, readLines, readBy}
+use Rattle.policy.specs.Read.{Answer, tooLong, isBad, lineRefusal, wholeRefusal, answer, readLines, readBy}
 use Rattle.policy.specs.Sound.{Sound, soundOf}
 use Rattle.policy.specs.Lawful.{Lawful}
 use Rattle.policy.proofs.Laws.Whole.{passed}
-use Rattle.text.proofs.Laws.Letters.{Lettered, AllLettered, lines-lettered}
-use Rattle.policy.proofs.Entries.{shaped-of, counts-of, unused-of, good-of}
+use Rattle.policy.proofs.Entries.{shaped-of, counts-of, unused-of, fit-of, good-of}
 use Rattle.policy.proofs.Lawful.{lawful}
 use Rattle.policy.proofs.Kept.{Kept, Passing, kept-none}
 use Rattle.policy.proofs.Kept.Segments.{kept-segment}
@@ -36,82 +31,94 @@ use Rattle.policy.proofs.Kept.Rights.{kept-right}
 use Rattle.policy.proofs.Kept.Flows.{kept-flow}
 use Rattle.policy.proofs.Kept.Slots.{kept-slot}
 
-abbrev KeptDraft : Draft → Type 0
-KeptDraft d = Kept (d .policy) (d .before .kind)
-
 -- an accepted line is none that rule 2 refuses, and rules 3 to 5 let it pass
-pub record Fine (d : Draft) (line : Line) : Type 0 where
+pub record Fine (limits : Limits) (v : View) (before : Key) (line : Line) : Type 0 where
   pub said : isBad line ≡ false
-  pub passing : Passing (d .policy) (d .before) line
+  pub passing : Passing limits v before line
 
-module _ (n : ℕ) (d : Draft) (line : Line) where
-  pub fine : isAccepted (lineRefusal single n d line) ≡ true → Fine d line
+module _ (limits : Limits) where
+  pub fine : (n : ℕ) (before : Key) (v : View) (line : Line) →
+      isAccepted (lineRefusal limits n before v line) ≡ true → Fine limits v before line
   unfolding lineRefusal
-  fine h =
-      let v = viewOf (d .policy) in
+  fine n before v line h =
       let fourth = cond (clashes v line) (Clash n) Accepted in
-      let third = cond (outOfRange single v line) (OutOfRange n) fourth in
-      let second = cond (outOfOrder (d .before) v line) (OutOfOrder n) third in
+      let third = cond (outOfRange limits v line) (OutOfRange n) fourth in
+      let second = cond (outOfOrder before v line) (OutOfOrder n) third in
       let p1 = passed (isBad line) (Malformed n) second refl h in
-      let p2 = passed (outOfOrder (d .before) v line) (OutOfOrder n) third refl (p1 .others) in
-      let p3 = passed (outOfRange single v line) (OutOfRange n) fourth refl (p2 .others) in
+      let p2 = passed (outOfOrder before v line) (OutOfOrder n) third refl (p1 .others) in
+      let p3 = passed (outOfRange limits v line) (OutOfRange n) fourth refl (p2 .others) in
       let p4 = passed (clashes v line) (Clash n) Accepted refl (p3 .others) in
       record { said = p1 .not-met; passing = record { ordered = p2 .not-met; ranged = p3 .not-met; clear = p4 .not-met } }
 
-pub kept-after : (d : Draft) (line : Line) → Lettered line → Fine d line → KeptDraft d → KeptDraft (after d line)
-unfolding added
-kept-after d Bad few f k = absurd (true≢false (f .said))
-kept-after d (Segment id base size) few f k = kept-segment (d .policy) (d .before) id base size k (f .passing)
-kept-after d (Partition id code save) few f k = kept-partition (d .policy) (d .before) id code save k (f .passing)
-kept-after d (Right partition segment mode) few f k =
-    kept-right (d .policy) (d .before) partition segment mode few k (f .passing)
-kept-after d (Flow from to) few f k = kept-flow (d .policy) (d .before) from to k (f .passing)
-kept-after d (Slot partition ticks) few f k = kept-slot (d .policy) (d .before) partition ticks k (f .passing)
+  abbrev KeptDraft : Draft → Type 0
+  KeptDraft d = Kept limits (d .tables) (d .before .kind)
 
-whole-of : (p : Policy) (kind : ℕ) → Kept p kind → isAccepted (wholeRefusal (viewOf p)) ≡ true → soundOf p ≡ true
-unfolding soundOf
-whole-of p kind k w = rw (shaped-of p (k .lengths), counts-of p (k .counts), unused-of p (k .unused), good-of p (k .good), w)
+  pub kept-after : (d : Draft) (line : Line) → Fine limits (viewOf (d .tables)) (d .before) line →
+      KeptDraft d → KeptDraft (after d line)
+  unfolding added
+  kept-after d Bad f k = absurd (true≢false (f .said))
+  kept-after d (Segment id base size) f k = kept-segment limits (d .tables) (d .before) id base size k (f .passing)
+  kept-after d (Partition id code save) f k = kept-partition limits (d .tables) (d .before) id code save k (f .passing)
+  kept-after d (Right partition segment mode) f k =
+      kept-right limits (d .tables) (d .before) partition segment mode k (f .passing)
+  kept-after d (Flow from to) f k = kept-flow limits (d .tables) (d .before) from to k (f .passing)
+  kept-after d (Slot partition ticks) f k = kept-slot limits (d .tables) (d .before) partition ticks k (f .passing)
 
-abbrev Accepts : Reading → Policy → Type 0
-Accepts r p = r ≡ record { refusal = Accepted; policy = p }
+  whole-of : (t : Tables) (kind : ℕ) → Kept limits t kind → isAccepted (wholeRefusal (viewOf t)) ≡ true → soundOf limits t ≡ true
+  unfolding soundOf
+  whole-of t kind k w =
+      rw (
+        shaped-of limits t (k .lengths),
+        counts-of limits (viewOf t) (k .counts),
+        unused-of limits t (k .unused),
+        fit-of limits t (k .fit),
+        good-of limits (viewOf t) (k .good),
+        w,
+      )
 
--- the answer of a refusal is not Accepted
-refused : (r : Refusal) (p q : Policy) → isAccepted r ≡ false → Accepts (answer r p) q → ⊥
-refused r p q h e = true≢false (sym (ap (λ (x : Reading). isAccepted (x .refusal)) e) ∙ h)
+  abbrev Accepts : Answer → Tables → Type 0
+  Accepts r t = r ≡ record { refusal = Accepted; tables = t }
 
-module _ (p : Policy) where
-  last-kept : (q : Policy) (kind : ℕ) → Kept q kind → Accepts (answer (wholeRefusal (viewOf q)) q) p → soundOf p ≡ true
-  last-kept q kind k e =
-      let w : isAccepted (wholeRefusal (viewOf q)) ≡ true = ap (λ (x : Reading). isAccepted (x .refusal)) e in
-      let same : q ≡ p = rw w at (ap (λ (x : Reading). x .policy) e) in
-      rw (← same) (whole-of q kind k w)
+  -- the answer of a refusal is not Accepted
+  refused : (r : Refusal) (q t : Tables) → isAccepted r ≡ false → Accepts (answer limits r q) t → ⊥
+  refused r q t h e = true≢false (sym (ap (λ (x : Answer). isAccepted (x .refusal)) e) ∙ h)
 
-  lines-kept : (lines : List Line) (n : ℕ) (d : Draft) → AllLettered lines → KeptDraft d →
-      Accepts (readLines single n d lines) p → soundOf p ≡ true
-  unfolding readLines
-  lines-kept [] n d few k e = last-kept (d .policy) (d .before .kind) k e
-  lines-kept (line ∷ lines) n d few k e =
-      go (isAccepted (lineRefusal single n d line)) refl e (λ k. lines-kept lines (n + 1) (after d line) (few .1) k)
+  module _ (t : Tables) where
+    last-kept : (q : Tables) (kind : ℕ) → Kept limits q kind →
+        Accepts (answer limits (wholeRefusal (viewOf q)) q) t → soundOf limits t ≡ true
+    last-kept q kind k e =
+        let w : isAccepted (wholeRefusal (viewOf q)) ≡ true = ap (λ (x : Answer). isAccepted (x .refusal)) e in
+        let same : q ≡ t = rw w at (ap (λ (x : Answer). x .tables) e) in
+        rw (← same) (whole-of q kind k w)
+
+    lines-kept : (lines : List Line) (n : ℕ) (d : Draft) → KeptDraft d →
+        Accepts (readLines limits n d lines) t → soundOf limits t ≡ true
+    unfolding readLines
+    lines-kept [] n d k e = last-kept (d .tables) (d .before .kind) k e
+    lines-kept (line ∷ lines) n d k e = go (isAccepted refusal) refl e (λ k. lines-kept lines (n + 1) (after d line) k)
+      where
+        refusal : Refusal
+        refusal = lineRefusal limits n (d .before) (viewOf (d .tables)) line
+
+        rest : Answer
+        rest = readLines limits (n + 1) (after d line) lines
+
+        go : (b : Bool) → isAccepted refusal ≡ b → Accepts (cond b rest (answer limits refusal (zeros limits))) t →
+            (KeptDraft (after d line) → Accepts rest t → soundOf limits t ≡ true) → soundOf limits t ≡ true
+        go true a e more = more (kept-after d line (fine n (d .before) (viewOf (d .tables)) line a) k) e
+        go false a e more = absurd (refused refusal (zeros limits) t a e)
+
+  pub accepted : (t : Tables) → Sound limits t → soundOf limits t ≡ true
+  unfolding readBy
+  accepted t s = go (tooLong limits (s .text)) (s .gives)
     where
-      rest : Reading
-      rest = readLines single (n + 1) (after d line) lines
+      lines : List Line
+      lines = linesOf (s .text)
 
-      go : (b : Bool) → isAccepted (lineRefusal single n d line) ≡ b →
-          Accepts (cond b rest (answer (lineRefusal single n d line) zeros)) p →
-          (KeptDraft (after d line) → Accepts rest p → soundOf p ≡ true) → soundOf p ≡ true
-      go true a e more = more (kept-after d line (few .0) (fine n d line a) k) e
-      go false a e more = absurd (refused (lineRefusal single n d line) zeros p a e)
+      go : (b : Bool) → Accepts (cond b (answer limits TooLong (zeros limits)) (readLines limits 1 (begun limits) lines)) t →
+          soundOf limits t ≡ true
+      go true e = absurd (refused TooLong (zeros limits) t refl e)
+      go false e = lines-kept t lines 1 (begun limits) (kept-none limits) e
 
-pub accepted : (p : Policy) → Sound p → soundOf p ≡ true
-unfolding readBy
-accepted p s = go (ltb (single .text) (length (s .text))) (s .gives)
-  where
-    lines : List Line
-    lines = linesOf (s .text)
-
-    go : (b : Bool) → Accepts (cond b (answer TooLong zeros) (readLines single 1 begun lines)) p → soundOf p ≡ true
-    go true e = absurd (refused TooLong zeros p refl e)
-    go false e = lines-kept p lines 1 begun (lines-lettered number (s .text)) kept-none e
-
-pub sound-lawful : (p : Policy) → Sound p → Lawful single (viewOf p)
-sound-lawful p s = lawful p (accepted p s)
+  pub sound-lawful : (t : Tables) → Sound limits t → Lawful limits (viewOf t)
+  sound-lawful t s = lawful limits t (accepted t s)

@@ -10,16 +10,15 @@ use Rattle.text.specs.Lines.{linesBy}
 use Rattle.text.specs.Number.{decimal, number}
 use Rattle.text.specs.declared.line.Line.{Line}
 use Rattle.text.proofs.Lines.{Both, Kept, decimal-lines, lines-kept}
-use Rattle.policy.specs.declared.record.Policy.{Policy}
-use Rattle.policy.specs.declared.record.Draft.{Draft}
-use Rattle.policy.specs.declared.record.Reading.{Reading}
+use Rattle.policy.specs.declared.record.Key.{Key}
 use Rattle.policy.specs.declared.record.Refusal.{Refusal}
 use Rattle.policy.specs.declared.record.Refusal.the-variants.{Accepted, TooLong, Malformed}
-use Rattle.policy.specs.Draft.{begun, after}
 use Rattle.policy.specs.Limits.{Limits}
-use Rattle.policy.specs.Read.{tooLong, isBad, lineRefusal, answer, readLines, readBy}
-use Rattle.policy.specs.Record.{zeros}
+use Rattle.policy.specs.View.{View}
+use Rattle.policy.specs.Tables.{Tables, zeros, viewOf}
+use Rattle.policy.specs.Draft.{Draft, begun, after}
 use Rattle.policy.specs.Refusals.{isAccepted, numberOf}
+use Rattle.policy.specs.Read.{Answer, tooLong, isBad, lineRefusal, answer, readLines, readBy}
 
 module _ (limits : Limits) where
   -- Refusal, line and record.
@@ -28,13 +27,13 @@ module _ (limits : Limits) where
   unfolding readBy
   decimal-texts text e = rw (decimal-lines text e)
 
-  abbrev RefusedBy2 : Reading → Type 0
+  abbrev RefusedBy2 : Answer → Type 0
   RefusedBy2 r = numberOf (r .refusal) ≡ 2
 
-  module _ (n : ℕ) (d : Draft) where
-    bad-refused : (line : Line) → isBad line ≡ true → lineRefusal limits n d line ≡ Malformed n
-    unfolding lineRefusal
-    bad-refused line e = rw e
+  bad-refused :
+      (n : ℕ) (before : Key) (v : View) (line : Line) → isBad line ≡ true → lineRefusal limits n before v line ≡ Malformed n
+  unfolding lineRefusal
+  bad-refused n before v line e = rw e
 
   lines-answered :
       (ls ms : List Line) → Both Kept ls ms → (n : ℕ) (d : Draft) → (RefusedBy2 (readLines limits n d ls) → ⊥)
@@ -45,23 +44,25 @@ module _ (limits : Limits) where
   lines-answered (l ∷ ls) [] h n d g = absurd h
   lines-answered (l ∷ ls) (m ∷ ms) h n d g = go (isBad l) refl (lines-answered ls ms (h .1) (n + 1) (after d l))
     where
-      rest : List Line → Reading
+      rest : List Line → Answer
       rest lines = readLines limits (n + 1) (after d l) lines
 
       refusal : Refusal
-      refusal = lineRefusal limits n d l
+      refusal = lineRefusal limits n (d .before) (viewOf (d .tables)) l
+
+      none : Answer
+      none = answer limits refusal (zeros limits)
 
       through :
-          (b : Bool) → (RefusedBy2 (cond b (rest ls) (answer refusal zeros)) → ⊥)
-          → ((RefusedBy2 (rest ls) → ⊥) → rest ms ≡ rest ls)
-          → cond b (rest ms) (answer refusal zeros) ≡ cond b (rest ls) (answer refusal zeros)
+          (b : Bool) → (RefusedBy2 (cond b (rest ls) none) → ⊥) → ((RefusedBy2 (rest ls) → ⊥) → rest ms ≡ rest ls)
+          → cond b (rest ms) none ≡ cond b (rest ls) none
       through true g more = more g
       through false g more = refl
 
       go :
           (b : Bool) → isBad l ≡ b → ((RefusedBy2 (rest ls) → ⊥) → rest ms ≡ rest ls)
           → readLines limits n d (m ∷ ms) ≡ readLines limits n d (l ∷ ls)
-      go true e more = absurd (g (rw (bad-refused n d l e)))
+      go true e more = absurd (g (rw (bad-refused n (d .before) (viewOf (d .tables)) l e)))
       go false e more =
           let same : m ≡ l = h .0 (λ z. true≢false (sym (ap isBad z) ∙ e)) in
           rw same (through (isAccepted refusal) g more)
@@ -72,18 +73,23 @@ module _ (limits : Limits) where
   unfolding readBy
   answers-kept text = go (tooLong limits text)
     where
-      rest : List Line → Reading
-      rest lines = readLines limits 1 begun lines
+      rest : List Line → Answer
+      rest lines = readLines limits 1 (begun limits) lines
+
+      long : Answer
+      long = answer limits TooLong (zeros limits)
 
       go :
-          (b : Bool) → (RefusedBy2 (cond b (answer TooLong zeros) (rest (linesBy decimal text))) → ⊥)
-          → cond b (answer TooLong zeros) (rest (linesBy number text))
-          ≡ cond b (answer TooLong zeros) (rest (linesBy decimal text))
+          (b : Bool) → (RefusedBy2 (cond b long (rest (linesBy decimal text))) → ⊥)
+          → cond b long (rest (linesBy number text)) ≡ cond b long (rest (linesBy decimal text))
       go true g = refl
-      go false g = lines-answered (linesBy decimal text) (linesBy number text) (lines-kept text) 1 begun g
+      go false g = lines-answered (linesBy decimal text) (linesBy number text) (lines-kept text) 1 (begun limits) g
 
   -- Every text that was accepted is accepted, with the same record.
   pub accepted-kept :
-      (text : List ℕ) (policy : Policy) → readBy decimal limits text ≡ record { refusal = Accepted; policy = policy }
-      → readBy number limits text ≡ record { refusal = Accepted; policy = policy }
-  accepted-kept text policy e = answers-kept text (λ z. absurd (let q : _≡_ {A = ℕ} 0 2 = sym (ap (λ (r : Reading). numberOf (r .refusal)) e) ∙ z in omega arith)) ∙ e
+      (text : List ℕ) (t : Tables) → readBy decimal limits text ≡ record { refusal = Accepted; tables = t }
+      → readBy number limits text ≡ record { refusal = Accepted; tables = t }
+  accepted-kept text t e =
+      answers-kept text
+      (λ z. absurd (let q : _≡_ {A = ℕ} 0 2 = sym (ap (λ (r : Answer). numberOf (r .refusal)) e) ∙ z in omega arith))
+      ∙ e

@@ -2,88 +2,110 @@
 use Prim.Native.Nat.{ℕ, _≤_, _<_}
 use mathlib.Core.Path.{_≡_}
 use mathlib.Core.Bool.{true}
-use borrow.Author.Tests.{leb-true, le-leb}
-use lib.ListN.{length, getD, drop}
-use Rattle.policy.specs.declared.record.Policy.{Policy}
-use Rattle.policy.specs.Limits.{single}
-use Rattle.policy.specs.Record.{viewOf}
-use Rattle.policy.specs.Sound.{goodSegment, goodPartition, goodRight, goodFlow, goodSlot, allZero, isShaped, countsFit, unusedZero, linesHold}
-use Rattle.policy.proofs.Laws.Below.{each-at, each-of}
+use borrow.Author.Tests.{eqb-true, leb-true, eq-eqb, le-leb}
+use lib.ListN.{length, drop}
+use Rattle.bits.specs.Masks.{AllUnder}
+use Rattle.policy.specs.Limits.{Limits}
+use Rattle.policy.specs.View.{View}
+use Rattle.policy.specs.Tables.{Tables}
+use Rattle.policy.specs.Sound.{goodSegment, goodPartition, goodRight, goodFlow, goodSlot, allZero, isShaped, countsFit, unusedZero, masksFit, linesHold, soundOf}
+use Rattle.policy.proofs.Laws.Bools.{and-both}
+use Rattle.policy.proofs.Laws.Below.{each-at, each-of, pairs-at, pairs-of}
+use Rattle.policy.proofs.Laws.Bits.{under-at, under-of}
 use Rattle.policy.proofs.Laws.Tests.{parts}
 
--- the arrays have the lengths of their types
-pub record Lengths (p : Policy) : Type 0 where
-  pub base : length (p .base) ≡ 32
-  pub size : length (p .size) ≡ 32
-  pub code : length (p .code) ≡ 8
-  pub save : length (p .save) ≡ 8
-  pub owner : length (p .owner) ≡ 32
-  pub ticks : length (p .ticks) ≡ 32
-  pub rights : length (p .rights) ≡ 256
-  pub flows : length (p .flows) ≡ 1024
+pub record Lengths (limits : Limits) (t : Tables) : Type 0 where
+  pub base : length (t .segments .base) ≡ limits .segments
+  pub size : length (t .segments .size) ≡ limits .segments
+  pub code : length (t .partitions .code) ≡ limits .partitions
+  pub save : length (t .partitions .save) ≡ limits .partitions
+  pub owner : length (t .slots .owner) ≡ limits .slots
+  pub ticks : length (t .slots .ticks) ≡ limits .slots
+  pub reads : length (t .rights .reads) ≡ limits .partitions
+  pub writes : length (t .rights .writes) ≡ limits .partitions
+  pub sources : length (t .flows .sources) ≡ limits .segments
 
-pub record Counts (p : Policy) : Type 0 where
-  pub segments : p .segments ≤ 32
-  pub partitions : p .partitions ≤ 8
-  pub slots : p .slots ≤ 32
+pub record Counts (limits : Limits) (v : View) : Type 0 where
+  pub segments : v .segments ≤ limits .segments
+  pub partitions : v .partitions ≤ limits .partitions
+  pub slots : v .slots ≤ limits .slots
 
-pub record Unused (p : Policy) : Type 0 where
-  pub base : allZero (drop (p .segments) (p .base)) ≡ true
-  pub size : allZero (drop (p .segments) (p .size)) ≡ true
-  pub code : allZero (drop (p .partitions) (p .code)) ≡ true
-  pub save : allZero (drop (p .partitions) (p .save)) ≡ true
-  pub owner : allZero (drop (p .slots) (p .owner)) ≡ true
-  pub ticks : allZero (drop (p .slots) (p .ticks)) ≡ true
+pub record Unused (t : Tables) : Type 0 where
+  pub base : allZero (drop (t .segments .count) (t .segments .base)) ≡ true
+  pub size : allZero (drop (t .segments .count) (t .segments .size)) ≡ true
+  pub code : allZero (drop (t .partitions .count) (t .partitions .code)) ≡ true
+  pub save : allZero (drop (t .partitions .count) (t .partitions .save)) ≡ true
+  pub owner : allZero (drop (t .slots .count) (t .slots .owner)) ≡ true
+  pub ticks : allZero (drop (t .slots .count) (t .slots .ticks)) ≡ true
+  pub byte : t .unused ≡ 0
 
-pub record Good (p : Policy) : Type 0 where
-  pub segment : (i : ℕ) → i < p .segments → goodSegment single (viewOf p) i ≡ true
-  pub partition : (i : ℕ) → i < p .partitions → goodPartition single (viewOf p) i ≡ true
-  pub right : (k : ℕ) → k < 256 → goodRight single (viewOf p) k (getD (p .rights) k 0) ≡ true
-  pub flow : (k : ℕ) → k < 1024 → goodFlow single (viewOf p) k (getD (p .flows) k 0) ≡ true
-  pub slot : (i : ℕ) → i < p .slots → goodSlot single (viewOf p) i ≡ true
+pub record Fit (limits : Limits) (t : Tables) : Type 0 where
+  pub reads : AllUnder (limits .segments) (t .rights .reads)
+  pub writes : AllUnder (limits .segments) (t .rights .writes)
+  pub sources : AllUnder (limits .segments) (t .flows .sources)
 
-module _ (p : Policy) where
-  pub counts : countsFit single p ≡ true → Counts p
+pub record Good (limits : Limits) (v : View) : Type 0 where
+  pub segment : (i : ℕ) → i < v .segments → goodSegment limits v i ≡ true
+  pub partition : (i : ℕ) → i < v .partitions → goodPartition limits v i ≡ true
+  pub right : (p s : ℕ) → p < limits .partitions → s < limits .segments → goodRight limits v p s ≡ true
+  pub flow : (s u : ℕ) → s < limits .segments → u < limits .segments → goodFlow limits v s u ≡ true
+  pub slot : (i : ℕ) → i < v .slots → goodSlot limits v i ≡ true
+
+module _ (limits : Limits) (v : View) where
+  pub counts : countsFit limits v ≡ true → Counts limits v
   unfolding countsFit
-  counts h =
-      record {
-        segments = leb-true (p .segments) 32 (search parts);
-        partitions = leb-true (p .partitions) 8 (search parts);
-        slots = leb-true (p .slots) 32 (search parts);
-      }
+  counts h = search (parts, leb-true)
 
-  pub good : linesHold single p ≡ true → Good p
+  pub good : linesHold limits v ≡ true → Good limits v
   unfolding linesHold
   good h =
       record {
-        segment = each-at (goodSegment single (viewOf p)) (p .segments) (search parts);
-        partition = each-at (goodPartition single (viewOf p)) (p .partitions) (search parts);
-        right = each-at (λ k. goodRight single (viewOf p) k (getD (p .rights) k 0)) 256 (search parts);
-        flow = each-at (λ k. goodFlow single (viewOf p) k (getD (p .flows) k 0)) 1024 (search parts);
-        slot = each-at (goodSlot single (viewOf p)) (p .slots) (search parts);
+        segment = each-at (goodSegment limits v) (v .segments) (search parts);
+        partition = each-at (goodPartition limits v) (v .partitions) (search parts);
+        right = pairs-at (goodRight limits v) (limits .partitions) (limits .segments) (search parts);
+        flow = pairs-at (goodFlow limits v) (limits .segments) (limits .segments) (search parts);
+        slot = each-at (goodSlot limits v) (v .slots) (search parts);
       }
 
   -- and back
-  pub shaped-of : Lengths p → isShaped p ≡ true
-  unfolding isShaped
-  shaped-of l = rw (l .base, l .size, l .code, l .save, l .owner, l .ticks, l .rights, l .flows)
-
-  pub counts-of : Counts p → countsFit single p ≡ true
+  pub counts-of : Counts limits v → countsFit limits v ≡ true
   unfolding countsFit
-  counts-of c =
-      rw (le-leb (p .segments) 32 (c .segments), le-leb (p .partitions) 8 (c .partitions), le-leb (p .slots) 32 (c .slots))
+  counts-of c = search (and-both, le-leb)
 
-  pub unused-of : Unused p → unusedZero p ≡ true
-  unfolding unusedZero
-  unused-of u = rw (u .base, u .size, u .code, u .save, u .owner, u .ticks)
-
-  pub good-of : Good p → linesHold single p ≡ true
+  pub good-of : Good limits v → linesHold limits v ≡ true
   unfolding linesHold
   good-of g =
       rw (
-        each-of (goodSegment single (viewOf p)) (p .segments) (g .segment),
-        each-of (goodPartition single (viewOf p)) (p .partitions) (g .partition),
-        each-of (λ k. goodRight single (viewOf p) k (getD (p .rights) k 0)) 256 (g .right),
-        each-of (λ k. goodFlow single (viewOf p) k (getD (p .flows) k 0)) 1024 (g .flow),
-        each-of (goodSlot single (viewOf p)) (p .slots) (g .slot),
+        each-of (goodSegment limits v) (v .segments) (g .segment),
+        each-of (goodPartition limits v) (v .partitions) (g .partition),
+        pairs-of (goodRight limits v) (limits .partitions) (limits .segments) (g .right),
+        pairs-of (goodFlow limits v) (limits .segments) (limits .segments) (g .flow),
+        each-of (goodSlot limits v) (v .slots) (g .slot),
       )
+
+module _ (limits : Limits) (t : Tables) where
+  pub shaped-of : Lengths limits t → isShaped limits t ≡ true
+  unfolding isShaped
+  shaped-of l = search (and-both, eq-eqb) depth 12
+
+  pub unused-of : Unused t → unusedZero t ≡ true
+  unfolding unusedZero
+  unused-of u = search (and-both, eq-eqb) depth 12
+
+  pub fit-of : Fit limits t → masksFit limits t ≡ true
+  unfolding masksFit
+  fit-of f = search (and-both, under-of) depth 12
+
+  -- of a record that passes the test
+  module _ (h : soundOf limits t ≡ true) where
+    pub lengths : Lengths limits t
+    unfolding soundOf isShaped
+    lengths = let s : isShaped limits t ≡ true = search parts in search (parts, eqb-true) depth 12
+
+    pub unused : Unused t
+    unfolding soundOf unusedZero
+    unused = let s : unusedZero t ≡ true = search parts in search (parts, eqb-true) depth 12
+
+    pub fit : Fit limits t
+    unfolding soundOf masksFit
+    fit = let s : masksFit limits t ≡ true = search parts in search (parts, under-at) depth 12

@@ -7,4 +7,4 @@ pub mod Whole
 pub mod Same
 pub mod Stored
 pub mod Zeros
-pub mod Pairs
+pub mod Bits

@@ -1,4 +1,5 @@
--- Laws of the definitions, one subject a file; rule 8 by target; what a sound record gives; that an accepted text's record passes the test.
+-- Laws of the definitions, one subject a file; rule 8 by target; what a sound record gives; that an accepted text's record passes the test;
+-- what decimal texts give; the record with a byte for each pair, beside the masks.
 pub mod Laws
 pub mod ByTarget
 pub mod Entries
@@ -6,3 +7,4 @@ pub mod Lawful
 pub mod Kept
 pub mod Accepted
 pub mod DecimalTexts
+pub mod Bytes

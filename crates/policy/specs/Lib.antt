@@ -12,12 +12,16 @@ pub mod Range
 pub mod Clash
 pub mod Whole
 pub mod ByTarget
--- The record, and the reading of a text into it.
-pub mod Record
+-- The record in parts, what a line adds to it, and the reading of a text into it; the single head's record.
+pub mod Tables
+pub mod Modes
 pub mod Draft
 pub mod First
 pub mod Refusals
 pub mod Read
+pub mod Record
 -- Which records are sound, the test that decides it, and what it gives.
 pub mod Sound
 pub mod Lawful
+-- The record with a byte for each pair, and when the two stand for the same.
+pub mod Bytes

@@ -1,27 +1,27 @@
 -- 01, "Memory and policy": "A record is sound if some accepted text gives it."
-use Prim.Native.Nat.{ℕ, _/_, _%_}
+use Prim.Native.Nat.{ℕ, _^_}
 use mathlib.Core.Path.{_≡_}
-use mathlib.Core.Bool.{Bool, true, false, _&&_, _||_, not}
+use mathlib.Core.Bool.{Bool, true, _&&_, _||_, not}
 use mathlib.Core.List.{List, [], _∷_}
 use lib.ListN.{length, getD, drop}
-use lib.Dec.{eqb, leb}
+use lib.Dec.{eqb, leb, ltb}
 use Rattle.text.specs.declared.line.Line.{Line}
 use Rattle.text.specs.declared.line.Line.the-variants.{Segment, Partition, Right, Flow, Slot}
-use Rattle.policy.specs.declared.record.Policy.{Policy}
 use Rattle.policy.specs.declared.record.Refusal.the-variants.{Accepted}
 use Rattle.policy.specs.Below.{eachBelow}
-use Rattle.policy.specs.Limits.{Limits, single}
+use Rattle.policy.specs.Limits.{Limits}
+use Rattle.policy.specs.Modes.{modeIn}
 use Rattle.policy.specs.View.{View}
 use Rattle.policy.specs.Range.{outOfRange}
 use Rattle.policy.specs.Clash.{clashes}
-use Rattle.policy.specs.Record.{viewOf}
+use Rattle.policy.specs.Tables.{Tables, viewOf}
 use Rattle.policy.specs.Refusals.{isAccepted}
 use Rattle.policy.specs.Read.{readOf, wholeRefusal}
 
 -- "some accepted text gives it"
-pub record Sound (policy : Policy) : Type 0 where
+pub record Sound (limits : Limits) (tables : Tables) : Type 0 where
   pub text : List ℕ
-  pub gives : readOf single text ≡ record { refusal = Accepted; policy = policy }
+  pub gives : readOf limits text ≡ record { refusal = Accepted; tables = tables }
 
 -- The test that decides it: each entry stands where a line that rules 4 and 5 let pass, after those before it, would
 -- put it, the unused entries are 0, and the whole passes 6, 7 and 8. That the two are the same is proved: `accepted`
@@ -67,55 +67,71 @@ goodPartition limits v i = passes limits (firstPartitions v i) (Partition i (v .
 unfoldable pub goodSlot : Limits → View → ℕ → Bool
 goodSlot limits v i = passes limits (firstSlots v i) (Slot (v .owner i) (v .ticks i))
 
--- The byte at place k of the rights, and of the flows.
+-- A pair on which a line gives a right is one that a right line could name; and so of a flow line.
 unfoldable pub goodRight : Limits → View → ℕ → ℕ → Bool
-goodRight limits v k mode = eqb mode 0 || leb mode 3 && passes limits v (Right (k / 32) (k % 32) mode)
+goodRight limits v p s = not (v .reads p s || v .writes p s) || passes limits v (Right p s (modeIn v p s))
 
 unfoldable pub goodFlow : Limits → View → ℕ → ℕ → Bool
-goodFlow limits v k byte = eqb byte 0 || eqb byte 1 && passes limits v (Flow (k / 32) (k % 32))
+goodFlow limits v s t = not (v .flow s t) || passes limits v (Flow s t)
+
+-- The pairs go up to the limits: a bit past the last segment, or of a partition or segment that isn't there, is a pair that no
+-- line gives.
+unfoldable pub linesHold : Limits → View → Bool
+linesHold limits v =
+    eachBelow (v .segments) (goodSegment limits v)
+    && eachBelow (v .partitions) (goodPartition limits v)
+    && eachBelow (limits .partitions) (λ p. eachBelow (limits .segments) (λ s. goodRight limits v p s))
+    && eachBelow (limits .segments) (λ s. eachBelow (limits .segments) (λ t. goodFlow limits v s t))
+    && eachBelow (v .slots) (goodSlot limits v)
+
+-- The lists have the lengths of the head's arrays.
+unfoldable pub isShaped : Limits → Tables → Bool
+isShaped limits t =
+    eqb (length (t .segments .base)) (limits .segments)
+    && eqb (length (t .segments .size)) (limits .segments)
+    && eqb (length (t .partitions .code)) (limits .partitions)
+    && eqb (length (t .partitions .save)) (limits .partitions)
+    && eqb (length (t .slots .owner)) (limits .slots)
+    && eqb (length (t .slots .ticks)) (limits .slots)
+    && eqb (length (t .rights .reads)) (limits .partitions)
+    && eqb (length (t .rights .writes)) (limits .partitions)
+    && eqb (length (t .flows .sources)) (limits .segments)
+
+unfoldable pub countsFit : Limits → View → Bool
+countsFit limits v =
+    leb (v .segments) (limits .segments) && leb (v .partitions) (limits .partitions) && leb (v .slots) (limits .slots)
 
 -- "Unused entries are 0."
 unfoldable pub allZero : List ℕ → Bool
 allZero [] = true
 allZero (n ∷ ns) = eqb n 0 && allZero ns
 
--- The arrays have the lengths of their types.
-unfoldable pub isShaped : Policy → Bool
-isShaped p =
-    eqb (length (p .base)) 32
-    && eqb (length (p .size)) 32
-    && eqb (length (p .code)) 8
-    && eqb (length (p .save)) 8
-    && eqb (length (p .owner)) 32
-    && eqb (length (p .ticks)) 32
-    && eqb (length (p .rights)) 256
-    && eqb (length (p .flows)) 1024
+unfoldable pub unusedZero : Tables → Bool
+unusedZero t =
+    allZero (drop (t .segments .count) (t .segments .base))
+    && allZero (drop (t .segments .count) (t .segments .size))
+    && allZero (drop (t .partitions .count) (t .partitions .code))
+    && allZero (drop (t .partitions .count) (t .partitions .save))
+    && allZero (drop (t .slots .count) (t .slots .owner))
+    && allZero (drop (t .slots .count) (t .slots .ticks))
+    && eqb (t .unused) 0
 
-unfoldable pub countsFit : Limits → Policy → Bool
-countsFit limits p =
-    leb (p .segments) (limits .segments) && leb (p .partitions) (limits .partitions) && leb (p .slots) (limits .slots)
+-- Each mask has as many bits as the head has segments.
+unfoldable pub allUnder : ℕ → List ℕ → Bool
+allUnder bound [] = true
+allUnder bound (n ∷ ns) = ltb n bound && allUnder bound ns
 
-unfoldable pub unusedZero : Policy → Bool
-unusedZero p =
-    allZero (drop (p .segments) (p .base))
-    && allZero (drop (p .segments) (p .size))
-    && allZero (drop (p .partitions) (p .code))
-    && allZero (drop (p .partitions) (p .save))
-    && allZero (drop (p .slots) (p .owner))
-    && allZero (drop (p .slots) (p .ticks))
+unfoldable pub masksFit : Limits → Tables → Bool
+masksFit limits t =
+    allUnder (2 ^ limits .segments) (t .rights .reads)
+    && allUnder (2 ^ limits .segments) (t .rights .writes)
+    && allUnder (2 ^ limits .segments) (t .flows .sources)
 
-unfoldable pub linesHold : Limits → Policy → Bool
-linesHold limits p =
-    eachBelow (p .segments) (goodSegment limits (viewOf p))
-    && eachBelow (p .partitions) (goodPartition limits (viewOf p))
-    && eachBelow 256 (λ k. goodRight limits (viewOf p) k (getD (p .rights) k 0))
-    && eachBelow 1024 (λ k. goodFlow limits (viewOf p) k (getD (p .flows) k 0))
-    && eachBelow (p .slots) (goodSlot limits (viewOf p))
-
-unfoldable pub soundOf : Policy → Bool
-soundOf p =
-    isShaped p
-    && countsFit single p
-    && unusedZero p
-    && linesHold single p
-    && isAccepted (wholeRefusal (viewOf p))
+unfoldable pub soundOf : Limits → Tables → Bool
+soundOf limits t =
+    isShaped limits t
+    && countsFit limits (viewOf t)
+    && unusedZero t
+    && masksFit limits t
+    && linesHold limits (viewOf t)
+    && isAccepted (wholeRefusal (viewOf t))

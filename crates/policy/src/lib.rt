@@ -11,7 +11,6 @@ pub use limits::SAVE_SIZE;
 pub use limits::SEGMENTS;
 pub use limits::SLOTS;
 pub use limits::TEXT;
-pub use record::Draft;
 pub use record::Key;
 pub use record::Policy;
 pub use record::Reading;

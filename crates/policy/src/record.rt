@@ -4,6 +4,8 @@ pub struct Policy {
     pub segments: u8,
     pub partitions: u8,
     pub slots: u8,
+    // 0. Without it this byte would be set by nobody, and two records of one text would differ by it.
+    pub unused: u8,
     // Of each segment.
     pub base: [u16; 32],
     pub size: [u16; 32],
@@ -13,10 +15,11 @@ pub struct Policy {
     // Of each slot: its partition and its ticks.
     pub owner: [u8; 32],
     pub ticks: [u16; 32],
-    // At 32 * partition + segment: 0 none, 1 r, 2 w, 3 rw.
-    pub rights: [u8; 256],
-    // At 32 * from + to: 1 where a flow line stands.
-    pub flows: [u8; 1024],
+    // Of each partition, bit s: a right line gives r, or w, on segment s.
+    pub reads: [u32; 8],
+    pub writes: [u32; 8],
+    // Of each segment t, bit s: a line "flow s t" stands.
+    pub sources: [u32; 32],
 }
 
 // Where a line stands in the order of lines: its kind, and its id or pair.
@@ -24,12 +27,6 @@ pub struct Key {
     pub kind: u8,
     pub first: u32,
     pub second: u32,
-}
-
-// The record that the lines read so far have made, and the key of the last of them.
-pub struct Draft {
-    pub policy: Policy,
-    pub before: Key,
 }
 
 // Why a text is refused, with the number of the line where one is named.

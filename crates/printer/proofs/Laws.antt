@@ -3,13 +3,14 @@ pub mod Decimal
 pub mod Cut
 pub mod Lines
 -- What the test tells of a record, and how long its lines are.
-pub mod Chains
 pub mod Passed
 pub mod Fits
 pub mod Bound
 -- The record: reading its lines, stage by stage.
 pub mod Upto
-pub mod Reaches
+pub mod Lows
+pub mod Widths
 pub mod Order
+pub mod Reaches
 pub mod Stage
 pub mod Fold

@@ -6,34 +6,39 @@ use mathlib.Core.Bool.{true}
 use native.Mathlib.Omega.{arith}
 use borrow.Author.Tests.{le-ltb}
 use lib.ListN.{length}
-use Rattle.policy.specs.Limits.{single}
+use Rattle.policy.specs.Limits.{Limits, single}
+use Rattle.policy.specs.Tables.{Tables}
 use Rattle.policy.specs.Read.{readBy, readOf}
 use Rattle.policy.specs.Sound.{Sound, soundOf}
-use Rattle.policy.specs.declared.record.Policy.{Policy}
 use Rattle.policy.specs.declared.record.Refusal.the-variants.{Accepted}
 use Rattle.printer.specs.Printer.{linesOfRecord, textOf, textBound}
+use Rattle.printer.specs.Roomy.{Roomy}
 use Rattle.printer.proofs.Laws.Lines.{lines-back}
 use Rattle.printer.proofs.Laws.Passed.{passed}
 use Rattle.printer.proofs.Laws.Fits.{record-printable}
-use Rattle.printer.proofs.Laws.Bound.{bound-single, text-short}
+use Rattle.printer.proofs.Laws.Bound.{bound-single, roomy-single, text-short}
 use Rattle.printer.proofs.Laws.Fold.{lines-read}
 
-module _ (p : Policy) (h : soundOf p ≡ true) where
-  -- 01: "every sound record has a text of at most 15,728 bytes"
-  pub printed-bound : length (textOf p) ≤ textBound single
-  printed-bound = text-short p (passed p h)
+pub printed-bound : (limits : Limits) (t : Tables) → soundOf limits t ≡ true → length (textOf limits t) ≤ textBound limits
+printed-bound limits t h = text-short limits t (passed limits t h)
 
-  pub printed-short : length (textOf p) ≤ 15728
-  printed-short = rw bound-single at printed-bound
-
-  pub printed-gives : readOf single (textOf p) ≡ record { refusal = Accepted; policy = p }
+module _ (limits : Limits) (t : Tables) (r : Roomy limits) (h : soundOf limits t ≡ true) where
+  pub printed-gives : readOf limits (textOf limits t) ≡ record { refusal = Accepted; tables = t }
   unfolding readBy textOf
   printed-gives =
       rw (
-        le-ltb 16384 (length (textOf p)) (omega (arith, printed-short)),
-        lines-back (linesOfRecord p) (record-printable p (passed p h)),
+        le-ltb (limits .text) (length (textOf limits t)) (omega (arith, printed-bound limits t h, r .text)),
+        lines-back (linesOfRecord limits t) (record-printable limits t (passed limits t h) r),
       )
-      (lines-read p (passed p h))
+      (lines-read limits t (passed limits t h))
 
-  pub printed : Sound p
-  printed = record { text = textOf p; gives = printed-gives }
+  pub printed : Sound limits t
+  printed = record { text = textOf limits t; gives = printed-gives }
+
+module _ (t : Tables) (h : soundOf single t ≡ true) where
+  -- 01: "every sound record has a text of at most 15,728 bytes"
+  pub printed-short : length (textOf single t) ≤ 15728
+  printed-short = rw bound-single at (printed-bound single t h)
+
+  pub printed-single : Sound single t
+  printed-single = printed single t roomy-single h

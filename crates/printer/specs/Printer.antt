@@ -1,18 +1,20 @@
 -- 01, "The policy text": a text for a record, line by line in the order of kinds, and how long it can get.
-use Prim.Native.Nat.{ℕ, zero, suc, _+_, _-_, _*_, _/_, _%_}
-use mathlib.Core.Bool.{cond}
+use Prim.Native.Nat.{ℕ, zero, suc, _+_, _-_, _*_}
+use mathlib.Core.Bool.{cond, _||_}
 use mathlib.Core.List.{List, [], _∷_, _++_}
-use lib.ListN.{length, getD}
+use lib.ListN.{length}
 use lib.Dec.{eqb}
 use Rattle.text.specs.Bytes.{bytesOf}
 use Rattle.text.specs.Cut.{tab, lineEnd}
 use Rattle.text.specs.declared.line.Line.{Line}
 use Rattle.text.specs.declared.line.Line.the-variants.{Bad, Segment, Partition, Right, Flow, Slot}
 use Rattle.policy.specs.Limits.{Limits, longestSegment, mostTicks}
-use Rattle.policy.specs.declared.record.Policy.{Policy}
+use Rattle.policy.specs.Modes.{modeIn}
+use Rattle.policy.specs.View.{View}
+use Rattle.policy.specs.Tables.{Tables, viewOf}
 use Rattle.printer.specs.Decimal.{digits}
 
--- "then r, w or rw", for the record's byte: "0 none, 1 r, 2 w, 3 rw"
+-- "then r, w or rw", for a right as a number: "0 none, 1 r, 2 w, 3 rw"
 unfoldable pub lettersOf : ℕ → List ℕ
 lettersOf mode = cond (eqb mode 1) (bytesOf "r") (cond (eqb mode 2) (bytesOf "w") (bytesOf "rw"))
 
@@ -52,45 +54,46 @@ unfoldable pub linesBelow : ℕ → (ℕ → List Line) → List Line
 linesBelow zero lines = []
 linesBelow (suc n) lines = linesBelow n lines ++ lines n
 
--- What stands at each place of the record: one line, or none where a byte of the rights or the flows is 0.
-abbrev pub segmentAt : Policy → ℕ → List Line
-segmentAt p i = Segment i (getD (p .base) i 0) (getD (p .size) i 0) ∷ []
+-- What stands at each place of the record: one line, or none at a pair where no bit is set.
+abbrev pub segmentAt : View → ℕ → List Line
+segmentAt v i = Segment i (v .base i) (v .size i) ∷ []
 
-abbrev pub partitionAt : Policy → ℕ → List Line
-partitionAt p i = Partition i (getD (p .code) i 0) (getD (p .save) i 0) ∷ []
+abbrev pub partitionAt : View → ℕ → List Line
+partitionAt v i = Partition i (v .code i) (v .save i) ∷ []
 
-abbrev pub rightAt : Policy → ℕ → List Line
-rightAt p k =
-    let mode = getD (p .rights) k 0 in
-    cond (eqb mode 0) [] (Right (k / 32) (k % 32) mode ∷ [])
+abbrev pub rightAt : View → ℕ → ℕ → List Line
+rightAt v p s = cond (v .reads p s || v .writes p s) (Right p s (modeIn v p s) ∷ []) []
 
-abbrev pub flowAt : Policy → ℕ → List Line
-flowAt p k = cond (eqb (getD (p .flows) k 0) 0) [] (Flow (k / 32) (k % 32) ∷ [])
+abbrev pub flowAt : View → ℕ → ℕ → List Line
+flowAt v s u = cond (v .flow s u) (Flow s u ∷ []) []
 
-abbrev pub slotAt : Policy → ℕ → List Line
-slotAt p i = Slot (getD (p .owner) i 0) (getD (p .ticks) i 0) ∷ []
+abbrev pub slotAt : View → ℕ → List Line
+slotAt v i = Slot (v .owner i) (v .ticks i) ∷ []
 
-abbrev pub segmentLines : Policy → List Line
-segmentLines p = linesBelow (p .segments) (segmentAt p)
+abbrev pub segmentLines : View → List Line
+segmentLines v = linesBelow (v .segments) (segmentAt v)
 
-abbrev pub partitionLines : Policy → List Line
-partitionLines p = linesBelow (p .partitions) (partitionAt p)
+abbrev pub partitionLines : View → List Line
+partitionLines v = linesBelow (v .partitions) (partitionAt v)
 
-abbrev pub rightLines : Policy → List Line
-rightLines p = linesBelow 256 (rightAt p)
+-- "strictly ascend, first number first": row by row
+abbrev pub rightLines : Limits → View → List Line
+rightLines limits v = linesBelow (limits .partitions) (λ p. linesBelow (limits .segments) (rightAt v p))
 
-abbrev pub flowLines : Policy → List Line
-flowLines p = linesBelow 1024 (flowAt p)
+abbrev pub flowLines : Limits → View → List Line
+flowLines limits v = linesBelow (limits .segments) (λ s. linesBelow (limits .segments) (flowAt v s))
 
-abbrev pub slotLines : Policy → List Line
-slotLines p = linesBelow (p .slots) (slotAt p)
+abbrev pub slotLines : View → List Line
+slotLines v = linesBelow (v .slots) (slotAt v)
 
 -- "lines come in this order of kinds"
-unfoldable pub linesOfRecord : Policy → List Line
-linesOfRecord p = segmentLines p ++ partitionLines p ++ rightLines p ++ flowLines p ++ slotLines p
+unfoldable pub linesOfRecord : Limits → Tables → List Line
+linesOfRecord limits t =
+    let v = viewOf t in
+    segmentLines v ++ partitionLines v ++ rightLines limits v ++ flowLines limits v ++ slotLines v
 
-unfoldable pub textOf : Policy → List ℕ
-textOf p = textOfLines (linesOfRecord p)
+unfoldable pub textOf : Limits → Tables → List ℕ
+textOf limits t = textOfLines (linesOfRecord limits t)
 
 -- "Counted by the widest line of each kind": a line for each segment, partition, pair of partition and segment, ordered
 -- pair of two segments, and slot.

@@ -4,9 +4,13 @@ ghost use mathlib.Core.Path.{_≡_};
 ghost use lib.ListN.{length};
 ghost use Rattle.text.specs.Lines.{linesOf};
 ghost use Rattle.policy.specs.Limits.{single};
-ghost use Rattle.policy.specs.Record.{zeros, viewOf};
+ghost use Rattle.policy.specs.Record.{answerOf, tablesOf};
+ghost use Rattle.policy.specs.Tables.{zeros, viewOf};
 ghost use Rattle.policy.specs.Draft.{begun};
 ghost use Rattle.policy.specs.Read.{answer, wholeRefusal, readLines};
+use crate::rights::with_read;
+use crate::rights::with_write;
+use bits::with_low_bit;
 use linerules::is_accepted;
 use linerules::key_of;
 use linerules::line_refusal;
@@ -21,7 +25,7 @@ use wholerules::whole_refusal;
 
 // A refusal comes with the record of zeros.
 pub(crate) fn refused(refusal: Refusal) -> Reading
-    ensures { λ r. ⌜ r ≡ answer refusal zeros ⌝ }
+    ensures { λ r. ⌜ answerOf r ≡ answer single refusal (zeros single) ⌝ }
 {
     Reading {
         refusal,
@@ -32,7 +36,7 @@ pub(crate) fn refused(refusal: Refusal) -> Reading
 // The answer once all lines are read into the record.
 fn judged(policy: Policy) -> Reading
     requires { ⌜ (policy .segments ≤ 32) × (policy .partitions ≤ 8) ⌝ }
-    ensures { λ r. ⌜ r ≡ answer (wholeRefusal (viewOf policy)) policy ⌝ }
+    ensures { λ r. ⌜ answerOf r ≡ answer single (wholeRefusal (viewOf (tablesOf policy))) (tablesOf policy) ⌝ }
 {
     let refusal = whole_refusal(policy);
     if is_accepted(refusal) {
@@ -45,7 +49,7 @@ fn judged(policy: Policy) -> Reading
 // value to a function and back is copied for each line.
 pub(crate) fn read_lines(text: &[u8]) -> Reading
     requires { ⌜ length (now text) ≤ single .text ⌝ }
-    ensures { λ r. ⌜ r ≡ readLines single 1 begun (linesOf (now (text .entry))) ⌝ }
+    ensures { λ r. ⌜ answerOf r ≡ readLines single 1 (begun single) (linesOf (now (text .entry))) ⌝ }
 {
     let mut policy = zeros();
     let mut before = Key {
@@ -90,10 +94,13 @@ pub(crate) fn read_lines(text: &[u8]) -> Reading
                 segment,
                 mode,
             } => {
-                policy.rights[(32 * partition + segment) as usize] = mode as u8;
+                let p = partition as usize;
+                policy.reads[p] = with_read(policy.reads[p], segment, mode);
+                policy.writes[p] = with_write(policy.writes[p], segment, mode);
             }
             Line::Flow { from, to } => {
-                policy.flows[(32 * from + to) as usize] = 1;
+                let t = to as usize;
+                policy.sources[t] = with_low_bit(policy.sources[t], from);
             }
             Line::Slot { partition, ticks } => {
                 let slot = policy.slots;

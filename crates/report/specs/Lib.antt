@@ -2,6 +2,6 @@
 pub mod Report
 pub mod Reportable
 -- What its parts are by numbers and lists alone, and what writing bytes leaves.
-pub mod Rows
 pub mod Masks
+pub mod Rows
 pub mod Written

@@ -1,20 +1,19 @@
 -- 01, "The demonstration head": what policycheck writes.
-use Prim.Native.Nat.{ℕ, zero, suc, _^_}
-use mathlib.Core.Bool.{Bool, cond}
+use Prim.Native.Nat.{ℕ, zero, suc}
+use mathlib.Core.Bool.{cond}
 use mathlib.Core.List.{List, [], _∷_, _++_}
+use Rattle.bits.specs.Masks.{maskOf}
 use Rattle.text.specs.Bytes.{bytesOf}
 use Rattle.text.specs.Cut.{tab, lineEnd}
 use Rattle.printer.specs.Decimal.{digits}
-use Rattle.policy.specs.declared.record.Reading.{Reading}
 use Rattle.policy.specs.declared.record.Refusal.{Refusal}
-use Rattle.policy.specs.Below.{sumBelow}
-use Rattle.policy.specs.Limits.{single}
+use Rattle.policy.specs.Limits.{Limits}
 use Rattle.policy.specs.View.{View}
 use Rattle.policy.specs.Access.{readable, writable}
 use Rattle.policy.specs.Schedule.{roundTicks}
-use Rattle.policy.specs.Record.{viewOf}
+use Rattle.policy.specs.Tables.{viewOf}
 use Rattle.policy.specs.Refusals.{numberOf, lineNumberOf, isAccepted}
-use Rattle.policy.specs.Read.{readOf}
+use Rattle.policy.specs.Read.{Answer, readOf}
 
 -- The numbers of a line, each after a tab, and the line's end.
 abbrev pub numbers : List ℕ → List ℕ
@@ -22,14 +21,11 @@ numbers [] = lineEnd ∷ []
 numbers (n ∷ ns) = tab ∷ digits n ++ numbers ns
 
 -- "the masks of partitions p with the segment in R(p) and in W(p), bit p worth 2 to the power p"
-unfoldable pub partitionMask : View → (ℕ → Bool) → ℕ
-partitionMask v has = sumBelow (v .partitions) (λ p. cond (has p) (2 ^ p) 0)
-
 abbrev pub readMask : View → ℕ → ℕ
-readMask v s = partitionMask v (λ p. readable v p s)
+readMask v s = maskOf (v .partitions) (λ p. readable v p s)
 
 abbrev pub writeMask : View → ℕ → ℕ
-writeMask v s = partitionMask v (λ p. writable v p s)
+writeMask v s = maskOf (v .partitions) (λ p. writable v p s)
 
 -- "Then id, and the masks"
 unfoldable pub segmentRow : View → ℕ → List ℕ
@@ -47,10 +43,12 @@ acceptedRow v = bytesOf "accepted" ++ numbers (v .partitions ∷ v .segments ∷
 unfoldable pub refusedRow : Refusal → List ℕ
 refusedRow refusal = bytesOf "refused" ++ numbers (numberOf refusal ∷ lineNumberOf refusal ∷ [])
 
-unfoldable pub reportOfReading : Reading → List ℕ
-reportOfReading reading =
-    let v = viewOf (reading .policy) in
-    cond (isAccepted (reading .refusal)) (acceptedRow v ++ segmentRows v (v .segments)) (refusedRow (reading .refusal))
+-- Of a refusal and a view, whatever record gives it.
+unfoldable pub reportWith : Refusal → View → List ℕ
+reportWith refusal v = cond (isAccepted refusal) (acceptedRow v ++ segmentRows v (v .segments)) (refusedRow refusal)
 
-unfoldable pub reportOf : List ℕ → List ℕ
-reportOf text = reportOfReading (readOf single text)
+abbrev pub reportOfReading : Answer → List ℕ
+reportOfReading a = reportWith (a .refusal) (viewOf (a .tables))
+
+unfoldable pub reportOf : Limits → List ℕ → List ℕ
+reportOf limits text = reportOfReading (readOf limits text)

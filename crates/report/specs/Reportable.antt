@@ -1,11 +1,11 @@
--- Which readings the report has room for: those within the limits, as reading a text gives them.
+-- Which answers of reading a text the report has room for: those within the limits.
 use Prim.Native.Nat.{ℕ, _≤_, _<_}
 use mathlib.Core.List.{List, [], _∷_}
-use Rattle.policy.specs.declared.record.Reading.{Reading}
 use Rattle.policy.specs.Limits.{single, mostTicks}
 use Rattle.policy.specs.View.{View}
-use Rattle.policy.specs.Record.{viewOf}
+use Rattle.policy.specs.Tables.{viewOf}
 use Rattle.policy.specs.Refusals.{lineNumberOf}
+use Rattle.policy.specs.Read.{Answer}
 
 -- The counts and the ticks of a policy that the first line tells.
 pub record Countable (v : View) : Type 0 where
@@ -19,6 +19,6 @@ abbrev pub Short : List ℕ → Type 0
 Short [] = Unit {0}
 Short (n ∷ ns) = (n < 100000) × Short ns
 
-pub record Reportable (reading : Reading) : Type 0 where
-  pub counts : Countable (viewOf (reading .policy))
-  pub line-short : lineNumberOf (reading .refusal) < 100000
+pub record Reportable (a : Answer) : Type 0 where
+  pub counts : Countable (viewOf (a .tables))
+  pub line-short : lineNumberOf (a .refusal) < 100000

@@ -23,8 +23,10 @@ pub(crate) fn changed(policy: Policy, line: &[u8]) -> Policy {
         6 => p.save[i % 8] = byte,
         7 => p.owner[i % 32] = byte,
         8 => p.ticks[i % 32] = half,
-        9 => p.rights[i % 256] = byte,
-        _ => p.flows[i % 1024] = byte,
+        9 => p.reads[i % 8] = value,
+        10 => p.writes[i % 8] = value,
+        11 => p.sources[i % 32] = value,
+        _ => p.unused = byte,
     }
     p
 }

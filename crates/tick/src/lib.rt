@@ -31,20 +31,20 @@ ghost use Rattle.tick.specs.Done.{obeyed, stepped};
 // A load and a store are lent a segment; every other instruction the save bytes alone.
 fn obey<'a>(
     memory: &mut [u8],
-    base: &'a [u16; 32],
-    size: &'a [u16; 32],
-    rights: &'a [u8; 256],
+    base: &'a [u16],
+    size: &'a [u16],
+    reads: u64,
+    writes: u64,
     segments: u8,
-    row: u16,
     from: usize,
     d: Decoded,
 )
     requires { ⌜ from + saveSize ≤ length (now memory) ⌝ }
-    requires { ⌜ Inside (now base) (now size) segments row (length (now memory)) ⌝ }
+    requires { ⌜ Inside (now base) (now size) segments (length (now memory)) ⌝ }
     ensures { λ _.
         ⌜
         now (memory .exit)
-        ≡ obeyed (seatOf (now (base .entry)) (now (size .entry)) (now (rights .entry)) segments row)
+        ≡ obeyed (seatOf (now (base .entry)) (now (size .entry)) reads writes segments)
         from (now (memory .entry)) d
         ⌝ }
 {
@@ -53,8 +53,8 @@ fn obey<'a>(
         return;
     };
     match i {
-        Instr::Load(a, b, c) => load(memory, base, size, rights, segments, row, from, a, b, c),
-        Instr::Store(a, b, c) => store(memory, base, size, rights, segments, row, from, a, b, c),
+        Instr::Load(a, b, c) => load(memory, base, size, reads, segments, from, a, b, c),
+        Instr::Store(a, b, c) => store(memory, base, size, writes, segments, from, a, b, c),
         _ => {
             let to = from + SAVE_SIZE;
             act(&mut memory[from..to], i);
@@ -64,19 +64,19 @@ fn obey<'a>(
 
 fn step<'a>(
     memory: &mut [u8],
-    base: &'a [u16; 32],
-    size: &'a [u16; 32],
-    rights: &'a [u8; 256],
+    base: &'a [u16],
+    size: &'a [u16],
+    reads: u64,
+    writes: u64,
     segments: u8,
-    row: u16,
     code: u8,
     save: u8,
 )
-    requires { ⌜ Seated (now base) (now size) segments row code save (length (now memory)) ⌝ }
+    requires { ⌜ Seated (now base) (now size) segments code save (length (now memory)) ⌝ }
     ensures { λ _.
         ⌜
         now (memory .exit)
-        ≡ stepped (seatOf (now (base .entry)) (now (size .entry)) (now (rights .entry)) segments row)
+        ≡ stepped (seatOf (now (base .entry)) (now (size .entry)) reads writes segments)
         code save (now (memory .entry))
         ⌝ }
 {
@@ -88,27 +88,27 @@ fn step<'a>(
         fault(memory, from, Fault::CounterOver);
     } else {
         let d = fetch(memory, start, room, pc);
-        obey(memory, base, size, rights, segments, row, from, d);
+        obey(memory, base, size, reads, writes, segments, from, d);
     }
 }
 
-// A tick of the partition with this code and this save segment, and its rights from `row` on; whether it had something
-// to do.
+// A tick of the partition with this code and this save segment, and the masks of the segments on which a line gives it
+// r and w; whether it had something to do.
 pub fn tick<'a>(
     memory: &mut [u8],
-    base: &'a [u16; 32],
-    size: &'a [u16; 32],
-    rights: &'a [u8; 256],
+    base: &'a [u16],
+    size: &'a [u16],
+    reads: u64,
+    writes: u64,
     segments: u8,
-    row: u16,
     code: u8,
     save: u8,
 ) -> bool
-    requires { ⌜ Seated (now base) (now size) segments row code save (length (now memory)) ⌝ }
+    requires { ⌜ Seated (now base) (now size) segments code save (length (now memory)) ⌝ }
     ensures { λ r.
         ⌜
         (now (memory .exit)
-        ≡ tickOf (seatOf (now (base .entry)) (now (size .entry)) (now (rights .entry)) segments row) code save
+        ≡ tickOf (seatOf (now (base .entry)) (now (size .entry)) reads writes segments) code save
         (now (memory .entry)))
         × (r ≡ isAble (savedAt (now (memory .entry)) (getD (now (base .entry)) save 0)))
         ⌝ }
@@ -119,7 +119,7 @@ pub fn tick<'a>(
         return true;
     }
     if is_ready(memory, from) {
-        step(memory, base, size, rights, segments, row, code, save);
+        step(memory, base, size, reads, writes, segments, code, save);
         return true;
     }
     false

@@ -1,12 +1,12 @@
-// A load: the right decides first, and then the offset.
-use crate::reach::READ;
+// A load: the right decides first, and then the offset. It asks the read mask alone, so its promise holds for every
+// write mask.
 use crate::reach::entry;
 use crate::reach::may;
 use machine::Fault;
 use parts::fault;
 use parts::load_from;
 ghost use mathlib.Core.Path.{_≡_};
-ghost use Prim.Native.Nat.{_+_, _≤_};
+ghost use Prim.Native.Nat.{ℕ, _+_, _≤_};
 ghost use lib.ListN.{length};
 ghost use Rattle.policy.specs.Limits.{saveSize};
 ghost use Rattle.tick.specs.Seat.{seatOf, Inside};
@@ -14,26 +14,25 @@ ghost use Rattle.tick.specs.Done.{loaded};
 
 pub(crate) fn load<'a>(
     memory: &mut [u8],
-    base: &'a [u16; 32],
-    size: &'a [u16; 32],
-    rights: &'a [u8; 256],
+    base: &'a [u16],
+    size: &'a [u16],
+    reads: u64,
     segments: u8,
-    row: u16,
     from: usize,
     a: u32,
     b: u32,
     c: u32,
 )
     requires { ⌜ from + saveSize ≤ length (now memory) ⌝ }
-    requires { ⌜ Inside (now base) (now size) segments row (length (now memory)) ⌝ }
+    requires { ⌜ Inside (now base) (now size) segments (length (now memory)) ⌝ }
     ensures { λ _.
         ⌜
-        now (memory .exit)
-        ≡ loaded (seatOf (now (base .entry)) (now (size .entry)) (now (rights .entry)) segments row)
-        from (now (memory .entry)) a b c
+        ((writes : ℕ) → now (memory .exit)
+        ≡ loaded (seatOf (now (base .entry)) (now (size .entry)) reads writes segments)
+        from (now (memory .entry)) a b c)
         ⌝ }
 {
-    if may(rights, segments, row, READ, c) {
+    if may(reads, segments, c) {
         load_from(memory, from, entry(base, c), entry(size, c), a, b);
     } else {
         fault(memory, from, Fault::NoRight);

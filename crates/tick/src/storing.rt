@@ -1,12 +1,12 @@
-// A store: the right decides first, and then the offset.
-use crate::reach::WRITE;
+// A store: the right decides first, and then the offset. It asks the write mask alone, so its promise holds for every
+// read mask.
 use crate::reach::entry;
 use crate::reach::may;
 use machine::Fault;
 use parts::fault;
 use parts::store_to;
 ghost use mathlib.Core.Path.{_≡_};
-ghost use Prim.Native.Nat.{_+_, _≤_};
+ghost use Prim.Native.Nat.{ℕ, _+_, _≤_};
 ghost use lib.ListN.{length};
 ghost use Rattle.policy.specs.Limits.{saveSize};
 ghost use Rattle.tick.specs.Seat.{seatOf, Inside};
@@ -14,26 +14,25 @@ ghost use Rattle.tick.specs.Done.{stored};
 
 pub(crate) fn store<'a>(
     memory: &mut [u8],
-    base: &'a [u16; 32],
-    size: &'a [u16; 32],
-    rights: &'a [u8; 256],
+    base: &'a [u16],
+    size: &'a [u16],
+    writes: u64,
     segments: u8,
-    row: u16,
     from: usize,
     a: u32,
     b: u32,
     c: u32,
 )
     requires { ⌜ from + saveSize ≤ length (now memory) ⌝ }
-    requires { ⌜ Inside (now base) (now size) segments row (length (now memory)) ⌝ }
+    requires { ⌜ Inside (now base) (now size) segments (length (now memory)) ⌝ }
     ensures { λ _.
         ⌜
-        now (memory .exit)
-        ≡ stored (seatOf (now (base .entry)) (now (size .entry)) (now (rights .entry)) segments row)
-        from (now (memory .entry)) a b c
+        ((reads : ℕ) → now (memory .exit)
+        ≡ stored (seatOf (now (base .entry)) (now (size .entry)) reads writes segments)
+        from (now (memory .entry)) a b c)
         ⌝ }
 {
-    if may(rights, segments, row, WRITE, c) {
+    if may(writes, segments, c) {
         store_to(memory, from, entry(base, c), entry(size, c), a, b);
     } else {
         fault(memory, from, Fault::NoRight);

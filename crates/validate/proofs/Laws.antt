@@ -1,5 +1,5 @@
 pub mod Zeros
-pub mod Rows
-pub mod Bytes
-pub mod Past
 pub mod Shape
+pub mod Gathered
+pub mod Lines
+pub mod Ends

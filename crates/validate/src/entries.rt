@@ -1,23 +1,36 @@
 // Rules 4 and 5 for the segments, partitions and slots of a record.
+use bytes::half_at;
 use linerules::partition_passes;
 use linerules::segment_passes;
 use linerules::slot_passes;
+ghost use Prim.Native.Nat.{_+_};
 ghost use mathlib.Core.Path.{_≡_};
 ghost use mathlib.Core.List.{[]};
 ghost use Rattle.policy.specs.Below.{eachBelow};
 ghost use Rattle.policy.specs.Limits.{single};
 ghost use Rattle.policy.specs.Sound.{goodSegment, goodPartition, goodSlot};
-ghost use Rattle.linerules.specs.Parts.{placed, scheduled};
+ghost use Rattle.linerules.specs.Parts.{EndedBy, placed, scheduled};
+
+// Where the segments up to i have ended.
+fn end_after<'a>(base: &'a [u16], size: &'a [u16], i: u8, end: u32) -> u32
+    requires { ⌜ EndedBy (now base) (now size) i end ⌝ }
+    ensures { λ r. ⌜ EndedBy (now (base .entry)) (now (size .entry)) (i + 1) r ⌝ }
+{
+    let next = half_at(base, i as usize) as u32 + half_at(size, i as usize) as u32;
+    if end < next { next } else { end }
+}
 
 pub(crate) fn segments_good<'a>(base: &'a [u16], size: &'a [u16], segments: u8) -> bool
     ensures { λ r.
         ⌜ r ≡ eachBelow segments (goodSegment single (placed 0 0 (now (base .entry)) (now (size .entry)) [] [])) ⌝ }
 {
+    let mut end: u32 = 0;
     let mut i = 0;
     while i < segments {
-        if !segment_passes(base, size, i) {
+        if !segment_passes(base, size, i, end) {
             return false;
         }
+        end = end_after(base, size, i, end);
         i += 1;
     }
     true

@@ -1,110 +1,105 @@
-// Rules 4 and 5 for the rights and the flow lines of a record, a row of 32 bytes at once. The rows past the counts must
-// be 0.
+// Rules 4 and 5 for the rights and the flow lines of a record, all masks at once. The masks past the counts must be 0.
 ghost use Prim.Native.Nat.{_≤_};
 ghost use mathlib.Core.Path.{_≡_};
+ghost use mathlib.Core.Bool.{not};
 ghost use mathlib.Core.List.{[]};
-ghost use lib.Dec.{eqb, leb};
+ghost use lib.Dec.{eqb};
 ghost use lib.ListN.{getD, length};
-ghost use Rattle.policy.specs.Below.{eachBelow};
-ghost use Rattle.policy.specs.Clash.{isSave};
+ghost use Rattle.bits.specs.Masks.{AllUnder, has, maskOf};
+ghost use Rattle.policy.specs.Below.{eachBelow, someBelow};
 ghost use Rattle.policy.specs.Limits.{single};
 ghost use Rattle.policy.specs.Sound.{goodFlow, goodRight};
-ghost use Rattle.linerules.specs.Parts.{counted, placed};
-ghost use Rattle.validate.specs.Rows.{rowGood};
-use crate::arrays::bytes_unused;
+ghost use Rattle.wholerules.specs.Parts.{partsOf};
+ghost use Rattle.validate.specs.Masks.{bitsFit, gathered};
+use bits::bit_of;
+use bits::bits_below;
+use bits::has_bit;
+use bits::within;
 use bytes::byte_at;
 
-// Whether no byte is over the most. No early exit: the compiler then looks at many at once.
-fn none_over(a: &[u8], most: u8) -> bool
-    ensures { λ r. ⌜ r ≡ eachBelow (length (now (a .entry))) (λ i. leb (getD (now (a .entry)) i 0) most) ⌝ }
+// The bits that some mask has, from one place to another. No early exit: the compiler then looks at many at once.
+fn bits_from(masks: &[u64], from: usize, to: usize) -> u64
+    requires { ⌜ (from ≤ to) × (to ≤ length (now masks)) ⌝ }
+    ensures { λ r. ⌜ r ≡ gathered (now (masks .entry)) from to ⌝ }
 {
-    let mut i = 0;
-    let mut over = false;
-    while i < a.len() {
-        if most < a[i] {
-            over = true;
-        }
+    let mut used: u64 = 0;
+    let mut i = from;
+    while i < to {
+        used = used | masks[i];
         i += 1;
     }
-    !over
+    used
 }
 
-// Whether a row gives nothing on a save segment.
-fn off_saves<'a>(save: &'a [u8], row: &'a [u8], partitions: u8) -> bool
-    ensures { λ r.
-        ⌜
-        r ≡ eachBelow partitions
-        (λ q. eqb (getD (now (row .entry)) (getD (now (save .entry)) q 0) 0) 0)
-        ⌝ }
+// Whether the first n masks have bits that are there and not barred, and the others none.
+fn bits_fit(masks: &[u64], n: u8, there: u64, barred: u64) -> bool
+    requires { ⌜ n ≤ length (now masks) ⌝ }
+    ensures { λ r. ⌜ r ≡ bitsFit (now (masks .entry)) n there barred ⌝ }
 {
+    let used = bits_from(masks, 0, n as usize);
+    let past = bits_from(masks, n as usize, masks.len());
+    within(used, there) & ((used & barred) == 0) & (past == 0)
+}
+
+// The save segments.
+fn save_bits(save: &[u8], partitions: u8) -> u64
+    ensures { λ r. ⌜ r ≡ maskOf 64 (λ s. someBelow partitions (λ q. eqb s (getD (now (save .entry)) q 0))) ⌝ }
+{
+    let mut saves: u64 = 0;
     let mut q = 0;
     while q < partitions {
-        let s = byte_at(save, q as usize) as usize;
-        if byte_at(row, s) != 0 {
-            return false;
-        }
+        saves = saves | bit_of(byte_at(save, q as usize));
         q += 1;
     }
-    true
+    saves
 }
 
-// Whether right lines may give a partition's row.
-fn right_row_good<'a>(save: &'a [u8], row: &'a [u8], segments: u8, partitions: u8) -> bool
-    ensures { λ r.
-        ⌜
-        r ≡ rowGood 3 segments (isSave (placed segments partitions [] [] [] (now (save .entry))))
-        (now (row .entry))
-        ⌝ }
-{
-    none_over(row, 3) & bytes_unused(row, segments as usize) & off_saves(save, row, partitions)
-}
-
+// A right is one on a segment that is there and no save segment.
 pub(crate) fn rights_good<'a>(
     save: &'a [u8],
-    rights: &'a [u8],
+    reads: &'a [u64],
+    writes: &'a [u64],
     segments: u8,
     partitions: u8,
 ) -> bool
-    requires { ⌜ (partitions ≤ 8) × (length (now rights) ≡ 256) ⌝ }
+    requires { ⌜ (segments ≤ 32) × (partitions ≤ 8) ⌝ }
+    requires { ⌜ (length (now reads) ≡ 8) × (length (now writes) ≡ 8) ⌝ }
+    requires { ⌜ AllUnder 32 (now reads) × AllUnder 32 (now writes) ⌝ }
     ensures { λ r.
         ⌜
-        r ≡ eachBelow 256
-        (λ k. goodRight single (placed segments partitions [] [] [] (now (save .entry))) k
-        (getD (now (rights .entry)) k 0))
+        r ≡ eachBelow 8
+        (λ p. eachBelow 32
+        (goodRight single
+        (partsOf segments partitions 0 [] (now (save .entry)) (now (reads .entry)) (now (writes .entry)) []) p))
         ⌝ }
 {
-    let mut p: u8 = 0;
-    while p < partitions {
-        let a = 32 * (p as usize);
-        let b = a + 32;
-        if !right_row_good(save, &rights[a..b], segments, partitions) {
-            return false;
-        }
-        p += 1;
-    }
-    bytes_unused(rights, 32 * (partitions as usize))
+    let there = bits_below(segments);
+    let saves = save_bits(save, partitions);
+    bits_fit(reads, partitions, there, saves) & bits_fit(writes, partitions, there, saves)
 }
 
-// Whether flow lines may give the row of s.
-fn flow_row_good(row: &[u8], segments: u8, s: u8) -> bool
-    ensures { λ r. ⌜ r ≡ rowGood 1 segments (eqb s) (now (row .entry)) ⌝ }
+// Whether no segment is its own source.
+fn none_own(sources: &[u64], segments: u8) -> bool
+    requires { ⌜ (segments ≤ 32) × (segments ≤ length (now sources)) ⌝ }
+    ensures { λ r. ⌜ r ≡ eachBelow segments (λ t. not (has (getD (now (sources .entry)) t 0) t)) ⌝ }
 {
-    none_over(row, 1) & bytes_unused(row, segments as usize) & (byte_at(row, s as usize) == 0)
+    let mut own = false;
+    let mut t = 0;
+    while t < segments {
+        own = own | has_bit(sources[t as usize], t as u32);
+        t += 1;
+    }
+    !own
 }
 
-pub(crate) fn flows_good(flows: &[u8], segments: u8) -> bool
-    requires { ⌜ (segments ≤ 32) × (length (now flows) ≡ 1024) ⌝ }
+// A flow is one between two segments that are there.
+pub(crate) fn flows_good(sources: &[u64], segments: u8) -> bool
+    requires { ⌜ (segments ≤ 32) × (length (now sources) ≡ 32) × AllUnder 32 (now sources) ⌝ }
     ensures { λ r.
-        ⌜ r ≡ eachBelow 1024 (λ k. goodFlow single (counted segments 0 0) k (getD (now (flows .entry)) k 0)) ⌝ }
+        ⌜
+        r ≡ eachBelow 32
+        (λ s. eachBelow 32 (goodFlow single (partsOf segments 0 0 [] [] [] [] (now (sources .entry))) s))
+        ⌝ }
 {
-    let mut s: u8 = 0;
-    while s < segments {
-        let a = 32 * (s as usize);
-        let b = a + 32;
-        if !flow_row_good(&flows[a..b], segments, s) {
-            return false;
-        }
-        s += 1;
-    }
-    bytes_unused(flows, 32 * (segments as usize))
+    bits_fit(sources, segments, bits_below(segments), 0) & none_own(sources, segments)
 }

@@ -1,4 +1,3 @@
-pub mod Masks
-pub mod Gather
 pub mod Filled
+pub mod Asked
 pub mod Sources

@@ -1,32 +1,25 @@
--- Which numbers pass a test, as one number: bit s is worth 2 to the power s. And what rule 8 asks of such masks.
-use Prim.Native.Nat.{ℕ, zero, suc, _+_, _*_, _<_}
+-- What rule 8 asks, as masks of segments.
+use Prim.Native.Nat.{ℕ, zero, suc, _<_}
 use mathlib.Core.Path.{_≡_}
-use mathlib.Core.Bool.{Bool, _&&_, _||_, cond, not}
+use mathlib.Core.Bool.{Bool, _||_, cond}
 use mathlib.Core.List.{List}
-use lib.Bits.{bitAnd}
+use lib.Bits.{bitOr}
 use lib.Dec.{eqb}
 use lib.ListN.{getD}
-use Rattle.policy.specs.Access.{readable, writable}
-use Rattle.policy.specs.View.{View}
+use Rattle.bits.specs.Masks.{has, maskOf}
 
--- The mask of n numbers from s on: the lowest bit is that of s.
-unfoldable pub maskFrom : (ℕ → Bool) → ℕ → ℕ → ℕ
-maskFrom test s zero = 0
-maskFrom test s (suc n) = maskFrom test (s + 1) n * 2 + cond (test s) 1 0
+-- Whether p reaches s by the masks: it is its save segment, or they give it. R(p) by the read masks, W(p) by the write
+-- masks.
+abbrev pub reach : List ℕ → List ℕ → ℕ → ℕ → Bool
+reach save masks p s = eqb s (getD save p 0) || has (getD masks p 0) s
 
--- The mask of the numbers below n.
-abbrev pub maskOf : ℕ → (ℕ → Bool) → ℕ
-maskOf n test = maskFrom test 0 n
+-- Entry p is the mask of the segments that p reaches, for each partition.
+abbrev pub AreReached : List ℕ → List ℕ → ℕ → ℕ → List ℕ → Type 0
+AreReached save masks segments partitions list =
+    (p : ℕ) → p < partitions → getD list p 0 ≡ maskOf segments (reach save masks p)
 
--- Entry p is the mask of what p may read, for each partition.
-abbrev pub AreReadMasks : View → ℕ → ℕ → List ℕ → Type 0
-AreReadMasks v segments partitions masks =
-    (p : ℕ) → p < partitions → getD masks p 0 ≡ maskOf segments (readable v p)
-
--- Whether rule 8 asks for no line from s to t.
-abbrev pub flowsIn : View → ℕ → ℕ → Bool
-flowsIn v t s = eqb s t || v .flow s t
-
--- Whether p may write t, and some bit of what it reads is no bit of the sources.
-abbrev pub maskLacks : View → ℕ → ℕ → ℕ → ℕ → Bool
-maskLacks v reads sources t p = writable v p t && not (eqb (bitAnd reads sources) reads)
+-- The sources that rule 8 asks for into t: what is reached by those of the first partitions that may write t.
+unfoldable pub askedInto : List ℕ → List ℕ → ℕ → ℕ → ℕ
+askedInto reached written t zero = 0
+askedInto reached written t (suc p) =
+    bitOr (askedInto reached written t p) (cond (has (getD written p 0) t) (getD reached p 0) 0)

@@ -1,6 +1,5 @@
 // Document 01's rules 6, 7 and 8, which are asked of the whole policy. Each is answered for any value of the record
 // whose counts are within the limits, sound or not.
-mod access;
 mod flows;
 mod masks;
 mod rules;

@@ -1,75 +1,54 @@
-// The segments that a partition may read, and those that may flow into a segment, as masks: bit s stands for segment
-// s. Rule 8 then compares 32 pairs at once.
-ghost use Prim.Native.Nat.{_≤_};
+// What partitions reach, and what rule 8 asks for, as masks of segments.
+ghost use Prim.Native.Nat.{_≤_, _<_};
 ghost use mathlib.Core.Path.{_≡_};
-ghost use mathlib.Core.List.{[]};
-ghost use Rattle.policy.specs.Access.{readable};
-ghost use Rattle.wholerules.specs.Masks.{AreReadMasks, flowsIn, maskOf};
-ghost use Rattle.wholerules.specs.Parts.{reachOf};
-use crate::access::may_read;
-use crate::access::pair_at;
+ghost use mathlib.Core.Bool.{cond};
+ghost use lib.ListN.{length};
+ghost use Rattle.wholerules.specs.Masks.{AreReached, askedInto};
+use bits::bit_of;
+use bits::bits_below;
+use bits::has_bit;
+use bits::mask_at;
+use bytes::byte_at;
 
-// Bit s: p may read s.
-fn reads_mask<'a>(save: &'a [u8], rights: &'a [u8], segments: u8, p: u8) -> u32
-    requires { ⌜ segments ≤ 32 ⌝ }
-    ensures { λ r.
-        ⌜ r ≡ maskOf segments (readable (reachOf (now (save .entry)) (now (rights .entry)) []) p) ⌝ }
-{
-    let mut mask: u32 = 0;
-    let mut left = segments;
-    while 0 < left {
-        left -= 1;
-        mask = mask * 2;
-        if may_read(save, rights, p, left) {
-            mask = mask + 1;
-        }
-    }
-    mask
-}
-
-// Whether rule 8 asks for no line from s to t: it stands there, or s is t. A branch, as in may_read.
-fn flows_in(flows: &[u8], t: u8, s: u8) -> bool
-    ensures { λ r. ⌜ r ≡ flowsIn (reachOf [] [] (now (flows .entry))) t s ⌝ }
-{
-    if s == t {
-        return true;
-    }
-    pair_at(flows, s, t) == 1
-}
-
-// Bit s: s may flow into t.
-pub(crate) fn sources_mask(flows: &[u8], segments: u8, t: u8) -> u32
-    requires { ⌜ segments ≤ 32 ⌝ }
-    ensures { λ r. ⌜ r ≡ maskOf segments (flowsIn (reachOf [] [] (now (flows .entry))) t) ⌝ }
-{
-    let mut mask: u32 = 0;
-    let mut left = segments;
-    while 0 < left {
-        left -= 1;
-        mask = mask * 2;
-        if flows_in(flows, t, left) {
-            mask = mask + 1;
-        }
-    }
-    mask
-}
-
-// What each partition may read.
-pub(crate) fn read_masks<'a>(
+// The segments that each partition reaches: its masks with its save segment, of those that are there.
+pub(crate) fn reached_by<'a>(
     save: &'a [u8],
-    rights: &'a [u8],
+    masks: &'a [u64],
     segments: u8,
     partitions: u8,
-) -> [u32; 8]
-    requires { ⌜ (segments ≤ 32) × (partitions ≤ 8) ⌝ }
-    ensures { λ r.
-        ⌜ AreReadMasks (reachOf (now (save .entry)) (now (rights .entry)) []) segments partitions r ⌝ }
+) -> [u64; 12]
+    requires { ⌜ (segments ≤ 64) × (partitions ≤ 12) ⌝ }
+    ensures { λ r. ⌜ AreReached (now (save .entry)) (now (masks .entry)) segments partitions r ⌝ }
 {
-    let mut masks: [u32; 8] = [0; 8];
+    let there = bits_below(segments);
+    let mut reached: [u64; 12] = [0; 12];
     let mut p = 0;
     while p < partitions {
-        masks[p as usize] = reads_mask(save, rights, segments, p);
+        let own = bit_of(byte_at(save, p as usize));
+        reached[p as usize] = (own | mask_at(masks, p as usize)) & there;
         p += 1;
     }
-    masks
+    reached
+}
+
+// A value and no branch, so that the compiler looks at many partitions at once.
+fn picked(take: bool, mask: u64) -> u64
+    ensures { λ r. ⌜ r ≡ cond take mask 0 ⌝ }
+{
+    if take { mask } else { 0 }
+}
+
+// The sources that rule 8 asks for into t: what the partitions reach that may write it. No exit inside.
+pub(crate) fn asked_into<'a>(reached: &'a [u64], written: &'a [u64], partitions: u8, t: u8) -> u64
+    requires { ⌜ (partitions ≤ length (now reached)) × (partitions ≤ length (now written)) × (t < 64) ⌝ }
+    ensures { λ r. ⌜ r ≡ askedInto (now (reached .entry)) (now (written .entry)) t partitions ⌝ }
+{
+    let mut asked: u64 = 0;
+    let mut p = 0;
+    while p < partitions {
+        let write = has_bit(written[p as usize], t as u32);
+        asked = asked | picked(write, reached[p as usize]);
+        p += 1;
+    }
+    asked
 }

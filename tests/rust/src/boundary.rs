@@ -3,22 +3,34 @@
 /// "Memory is 16,384 bytes."
 pub const MEMORY: usize = 16_384;
 
-/// The policy record. A right stands at 32 * partition + segment, a flow at 32 * from + to.
+/// The policy record: 436 bytes without a hole, so that two equal records are equal byte by byte.
 #[repr(C)]
 #[derive(Clone, Copy, PartialEq, Eq, Debug)]
 pub struct Policy {
     pub segments: u8,
     pub partitions: u8,
     pub slots: u8,
+    /// 0 in every sound record.
+    pub unused: u8,
     pub base: [u16; 32],
     pub size: [u16; 32],
     pub code: [u8; 8],
     pub save: [u8; 8],
     pub slot_partition: [u8; 32],
     pub slot_ticks: [u16; 32],
-    pub rights: [u8; 256],
-    pub flows: [u8; 1024],
+    /// Of each partition: bit s, a right line gives r on segment s.
+    pub reads: [u32; 8],
+    /// The same for w.
+    pub writes: [u32; 8],
+    /// Of each segment t: bit s, there is a line "flow s t".
+    pub sources: [u32; 32],
 }
+
+/// The bytes of a record.
+pub const RECORD: usize = 436;
+
+const R: u8 = 1;
+const W: u8 = 2;
 
 impl Policy {
     /// The record of zeros.
@@ -26,27 +38,59 @@ impl Policy {
         segments: 0,
         partitions: 0,
         slots: 0,
+        unused: 0,
         base: [0; 32],
         size: [0; 32],
         code: [0; 8],
         save: [0; 8],
         slot_partition: [0; 32],
         slot_ticks: [0; 32],
-        rights: [0; 256],
-        flows: [0; 1024],
+        reads: [0; 8],
+        writes: [0; 8],
+        sources: [0; 32],
     };
 
+    /// What right lines give: 0 none, 1 r, 2 w, 3 rw.
     pub fn right(&self, partition: usize, segment: usize) -> u8 {
-        self.rights[32 * partition + segment]
+        R * has(self.reads[partition], segment) as u8 + W * has(self.writes[partition], segment) as u8
+    }
+
+    pub fn set_right(&mut self, partition: usize, segment: usize, right: u8) {
+        set(&mut self.reads[partition], segment, right & R != 0);
+        set(&mut self.writes[partition], segment, right & W != 0);
     }
 
     pub fn flow(&self, from: usize, to: usize) -> bool {
-        self.flows[32 * from + to] == 1
+        has(self.sources[to], from)
+    }
+
+    pub fn set_flow(&mut self, from: usize, to: usize, there: bool) {
+        set(&mut self.sources[to], from, there);
     }
 
     pub fn is_save(&self, segment: usize) -> bool {
         (0..self.partitions as usize).any(|p| self.save[p] as usize == segment)
     }
+
+    /// The record's bytes as they stand in memory.
+    pub fn bytes(&self) -> [u8; RECORD] {
+        // No hole: every byte is one of an entry. `types_have_the_layout_of_c` tests it.
+        unsafe { std::mem::transmute(*self) }
+    }
+
+    pub fn of_bytes(bytes: [u8; RECORD]) -> Policy {
+        // Every byte is one of an entry, and entries have all values.
+        unsafe { std::mem::transmute(bytes) }
+    }
+}
+
+/// Bit s of a mask, worth 2 to the power s.
+pub fn has(mask: u32, s: usize) -> bool {
+    mask >> s & 1 == 1
+}
+
+fn set(mask: &mut u32, s: usize, bit: bool) {
+    *mask = *mask & !(1 << s) | u32::from(bit) << s;
 }
 
 /// A place in the schedule.

@@ -2,6 +2,7 @@
 
 use crate::boundary::{Kernel, Place, Policy, MEMORY};
 use crate::generate::lists::{Call, List, Step};
+use crate::reference::bytes::{self, Bytes};
 use crate::reference::{judge, print, read, run_watched, sound, Event, Reference};
 use std::collections::BTreeMap;
 
@@ -11,10 +12,11 @@ pub fn text_difference(kernel: &dyn Kernel, text: &[u8]) -> Option<String> {
     if (want.number, want.line) != (got.number, got.line) {
         return Some(format!("reference: number {} line {}, {}: number {} line {}", want.number, want.line, kernel.name(), got.number, got.line));
     }
-    if want.policy != got.policy {
+    // All bytes, as memcmp has them; an accepted text's record stands for what document 01's does, a refused one's for nothing.
+    if want.policy.bytes() != got.policy.bytes() {
         return Some(format!("the record differs:\nreference: {:?}\n{}: {:?}", want.policy, kernel.name(), got.policy));
     }
-    None
+    bytes::read(text).2.difference(&got.policy).map(|difference| format!("{}, record of bytes: {difference}", kernel.name()))
 }
 
 /// How a kernel differs from the reference on a record, if it does.
@@ -25,7 +27,12 @@ pub fn record_difference(kernel: &dyn Kernel, policy: &Policy) -> Option<String>
 
 /// The definition itself, "some accepted text gives it": if any does, the one with decimal numbers does.
 pub fn text_gives(policy: &Policy) -> bool {
-    print(policy).is_some_and(|text| judge(text.as_bytes()).is_ok_and(|record| record == *policy))
+    print(policy).is_some_and(|text| judge(text.as_bytes()).is_ok_and(|lines| lines.record() == *policy))
+}
+
+/// The record of bytes that stands for the same is sound; a record whose unused byte is not 0 stands for none.
+pub fn bytes_sound(policy: &Policy) -> bool {
+    policy.unused == 0 && Bytes::of_masks(policy).sound()
 }
 
 /// What a call answers: a number, and the place that the next Run gets.

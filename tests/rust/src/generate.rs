@@ -8,3 +8,4 @@ pub mod policies;
 pub mod programs;
 pub mod records;
 pub mod texts;
+pub mod workloads;

@@ -64,8 +64,8 @@ impl Leaky {
         let counter = two(memory, base + COUNTER);
         match self.0 {
             Leak::LoadAnywhere | Leak::StoreAnywhere => {
-                let bit = if self.0 == Leak::LoadAnywhere { 1 } else { 2 };
-                (0..policy.segments as usize).for_each(|s| wide.rights[32 * current + s] |= bit);
+                let right = if self.0 == Leak::LoadAnywhere { 1 } else { 2 };
+                (0..policy.segments as usize).for_each(|s| wide.set_right(current, s, policy.right(current, s) | right));
             }
             Leak::FetchPastTheEnd => {
                 let size = policy.size[code] as usize;

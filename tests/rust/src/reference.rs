@@ -1,6 +1,7 @@
 //! The correctness reference: the rules of the scope document and the change requests in plain code, each with the sentence that it follows. Nothing
 //! here is made for speed.
 
+pub mod bytes;
 mod calls;
 mod line;
 mod machine;
@@ -11,7 +12,7 @@ mod report;
 pub use calls::{pend, run, run_watched, start};
 pub use machine::{next_place, tick, Event, COUNTER, ENABLED, FAULT, HANDLER, IN_HANDLER, PENDED, RETURN, SAVE, STATE, UNUSED};
 pub use reader::{judge, read, Refusal};
-pub use record::{print, readable, sound, sources, writable};
+pub use record::{print, readable, sound, sources, writable, Lines};
 pub use report::report;
 
 use crate::boundary::{Kernel, Place, Policy, ReadResult, RunResult};

@@ -59,7 +59,7 @@ pub fn shrink_list(list: &List, fails: &mut dyn FnMut(&List) -> bool) -> List {
         let lines: Vec<&str> = text.split_inclusive('\n').collect();
         let mut with = |lines: &[&str]| -> Option<List> {
             let mut other = list.clone();
-            other.policies[0] = judge(lines.concat().as_bytes()).ok()?;
+            other.policies[0] = judge(lines.concat().as_bytes()).ok()?.record();
             fails(&other).then_some(other)
         };
         let lines = shrink(&lines, &mut |lines| with(lines).is_some());

@@ -1,4 +1,5 @@
-//! The same operations, tuned: the measure for the benchmark. Safe Rust, the policy by reference, and one tick at a time on the bytes in memory.
+//! The same operations, tuned: the measure for the benchmark. Safe Rust, the policy by reference, its masks read as such, and one tick at a time on the
+//! bytes in memory; an idle slot is left at once.
 
 mod reader;
 mod record;
@@ -84,9 +85,7 @@ pub fn run(policy: &Policy, memory: &mut [u8], place: Place, ticks: u32) -> RunR
         let whole = u32::from(policy.slot_ticks[slot]);
         let now = left.min(whole - used);
         let view = View::new(policy, policy.slot_partition[slot] as usize);
-        for _ in 0..now {
-            view.tick(memory);
-        }
+        view.ticks(memory, now);
         left -= now;
         used += now;
         if used == whole {
@@ -103,7 +102,8 @@ struct View<'p> {
     save: usize,
     code: usize,
     code_size: usize,
-    rights: &'p [u8; 32],
+    reads: u32,
+    writes: u32,
 }
 
 impl<'p> View<'p> {
@@ -114,7 +114,8 @@ impl<'p> View<'p> {
             save: policy.base[policy.save[partition] as usize] as usize,
             code: policy.base[code] as usize,
             code_size: policy.size[code] as usize,
-            rights: policy.rights[32 * partition..32 * partition + 32].try_into().unwrap(),
+            reads: policy.reads[partition],
+            writes: policy.writes[partition],
         }
     }
 
@@ -123,44 +124,60 @@ impl<'p> View<'p> {
         (&mut memory[self.save..self.save + 44]).try_into().unwrap()
     }
 
+    /// Ticks of one slot. The counter is kept beside its bytes, which follow it at each tick.
     #[inline(always)]
-    fn tick(&self, memory: &mut Memory) {
-        let save = self.save(memory);
-        let state = save[34];
-        let in_handler = save[42] != 0;
-        let lines = save[36] & save[37];
-        if lines != 0 && !in_handler && (state == 0 || state == 3) {
-            let line = lines.trailing_zeros();
-            save[36] &= !(1 << line);
-            set_register(save, 7, line);
-            (save[38], save[39]) = (save[32], save[33]);
-            (save[32], save[33]) = (save[40], save[41]);
-            save[42] = 1;
-            save[34] = 0;
-        } else if state == 0 {
-            if let Err(fault) = self.step(memory, in_handler) {
-                let save = self.save(memory);
-                save[34] = 2;
-                save[35] = fault;
+    fn ticks(&self, memory: &mut Memory, ticks: u32) {
+        let mut counter = two(self.save(memory), 32);
+        for _ in 0..ticks {
+            let save = self.save(memory);
+            let state = save[34];
+            let in_handler = save[42] != 0;
+            let lines = save[36] & save[37];
+            if lines != 0 && !in_handler && (state == 0 || state == 3) {
+                let line = lines.trailing_zeros();
+                save[36] &= !(1 << line);
+                set_register(save, 7, line);
+                (save[38], save[39]) = (save[32], save[33]);
+                counter = two(save, 40);
+                (save[32], save[33]) = (save[40], save[41]);
+                save[42] = 1;
+                save[34] = 0;
+            } else if state == 0 {
+                match self.step(memory, counter, in_handler) {
+                    Ok(next) => {
+                        counter = next;
+                        let save = self.save(memory);
+                        [save[32], save[33]] = next.to_le_bytes();
+                    }
+                    Err(fault) => {
+                        let save = self.save(memory);
+                        save[34] = 2;
+                        save[35] = fault;
+                        return;
+                    }
+                }
+            } else {
+                // Nothing changes, so nothing will until the slot ends.
+                return;
             }
         }
     }
 
+    /// One instruction, and the counter after it.
     #[inline(always)]
-    fn step(&self, memory: &mut Memory, in_handler: bool) -> Result<(), u8> {
-        let counter = two(self.save(memory), 32) as usize;
-        if counter + 4 > self.code_size {
+    fn step(&self, memory: &mut Memory, counter: u16, in_handler: bool) -> Result<u16, u8> {
+        if counter as usize + 4 > self.code_size {
             return Err(1);
         }
-        let at = self.code + counter;
+        let at = self.code + counter as usize;
         let [opcode, a, b, c]: [u8; 4] = memory[at..at + 4].try_into().unwrap();
         let n = u16::from_le_bytes([b, c]);
         let save = self.save(memory);
-        let mut next = counter as u16 + 4;
+        let mut next = counter + 4;
         match opcode {
             0 => {
                 save[34] = 1;
-                return Ok(());
+                return Ok(counter);
             }
             1 if a < 8 => set_register(save, a, u32::from(n)),
             2..=6 if (a | b | c) < 8 => {
@@ -176,13 +193,13 @@ impl<'p> View<'p> {
             }
             7 if (a | b) < 8 => {
                 let offset = register(save, b);
-                let place = self.place(c, 1, offset)?;
+                let place = self.place(c, self.reads, offset)?;
                 let byte = memory[place];
                 set_register(self.save(memory), a, u32::from(byte));
             }
             8 if (a | b) < 8 => {
                 let (offset, byte) = (register(save, b), register(save, a) as u8);
-                let place = self.place(c, 2, offset)?;
+                let place = self.place(c, self.writes, offset)?;
                 memory[place] = byte;
             }
             9 if a < 8 => {
@@ -203,16 +220,14 @@ impl<'p> View<'p> {
             }
             _ => return Err(2),
         }
-        let save = self.save(memory);
-        [save[32], save[33]] = next.to_le_bytes();
-        Ok(())
+        Ok(next)
     }
 
-    /// The byte at an offset of segment c, if the partition has the right on it. A record's unused rights are 0, so a segment that isn't there has none.
+    /// The byte at an offset of segment c, if its bit stands in the mask. Stray bits are 0, so a segment that isn't there has none.
     #[inline(always)]
-    fn place(&self, c: u8, right: u8, offset: u32) -> Result<usize, u8> {
+    fn place(&self, c: u8, mask: u32, offset: u32) -> Result<usize, u8> {
         let c = c as usize;
-        if c >= 32 || self.rights[c] & right == 0 {
+        if c >= 32 || mask >> c & 1 == 0 {
             return Err(3);
         }
         if offset >= u32::from(self.policy.size[c]) {

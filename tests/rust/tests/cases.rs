@@ -1,6 +1,6 @@
 //! The cases of the scope document and of the change requests, on the reference and on each kernel.
 
-use separation::boundary::{Kernel, Place, Policy, ReadResult, RunResult, MEMORY};
+use separation::boundary::{Kernel, Place, Policy, ReadResult, RunResult, MEMORY, RECORD};
 use separation::compare::text_difference;
 use separation::generate::mutations::{join, split};
 use separation::generate::numbers::{is_place, rewrite};
@@ -9,6 +9,7 @@ use separation::generate::texts::{hexadecimal_text_of, text, text_of};
 use separation::random::Random;
 use separation::reference::{report, Reference, SAVE};
 use separation::{kernels, show};
+use std::mem::offset_of;
 
 fn each(test: impl Fn(&dyn Kernel)) {
     test(&Reference);
@@ -40,11 +41,30 @@ fn after(kernel: &dyn Kernel, put: &[(usize, &[u8])], ticks: u32) -> (Vec<u8>, R
 
 #[test]
 fn types_have_the_layout_of_c() {
-    assert_eq!(std::mem::size_of::<Policy>(), 1_524);
-    assert_eq!(std::mem::size_of::<ReadResult>(), 1_532);
+    assert_eq!(std::mem::size_of::<Policy>(), RECORD);
+    assert_eq!(std::mem::size_of::<ReadResult>(), 444);
     assert_eq!(std::mem::size_of::<RunResult>(), 12);
-    assert_eq!(std::mem::offset_of!(Policy, base), 4);
-    assert_eq!(std::mem::offset_of!(Policy, flows), 500);
+    // Each entry begins where the one before ends.
+    let entries = [
+        (offset_of!(Policy, segments), 1),
+        (offset_of!(Policy, partitions), 1),
+        (offset_of!(Policy, slots), 1),
+        (offset_of!(Policy, unused), 1),
+        (offset_of!(Policy, base), 64),
+        (offset_of!(Policy, size), 64),
+        (offset_of!(Policy, code), 8),
+        (offset_of!(Policy, save), 8),
+        (offset_of!(Policy, slot_partition), 32),
+        (offset_of!(Policy, slot_ticks), 64),
+        (offset_of!(Policy, reads), 32),
+        (offset_of!(Policy, writes), 32),
+        (offset_of!(Policy, sources), 128),
+    ];
+    let end = entries.iter().fold(0, |end, &(at, length)| {
+        assert_eq!(at, end);
+        end + length
+    });
+    assert_eq!(end, RECORD);
 }
 
 #[test]
@@ -114,7 +134,7 @@ fn limits_of_the_calls() {
         }
         memory.truncate(MEMORY);
         let mut bad = policy;
-        bad.flows[33] = 1;
+        bad.set_flow(1, 1, true);
         let far = Place { slot: 2, used: 0 };
         assert_eq!(kernel.run(&bad, &mut memory, far, 10_001), RunResult { number: 10, place: far });
         assert_eq!(kernel.run(&policy, &mut memory, far, 10_001), RunResult { number: 13, place: far });
@@ -269,7 +289,7 @@ fn refusal_1_counts_bytes() {
     let text = hexadecimal_text_of(&record);
     assert_eq!((text.len(), text_of(&record).len()), (16_384, 12_293));
     let mut longer = record;
-    longer.rights[32 * 7 + 31] = 3;
+    longer.set_right(7, 31, 3);
     each(|kernel| {
         assert_eq!(kernel.read(&text), accepted(record));
         assert_eq!(kernel.read(&text_of(&record)), accepted(record));

@@ -1,5 +1,8 @@
 -- The number and the line are those of the answer.
+use mathlib.Core.Path.{_∙_, ap}
 use borrow.Author.Needs.{needs}
+use Rattle.policy.specs.Read.{Answer}
+use Rattle.policy.specs.Refusals.{numberOf, lineNumberOf}
 use Rattle.boundary.proofs.sk_read.Statement.{statement}
 use Rattle.boundary.proofs.sk_read.Tie as tie
 
@@ -13,7 +16,13 @@ line-number-of-requires : tie.Need-line-number-of-requires
 line-number-of-requires c κs = search needs
 
 returns : tie.Need-returns
-returns c = rw (c .line-number-of .ensures, c .before .number-of .ensures, c .before .before .before .read .ensures)
+returns c =
+    let e = c .before .before .before .read .ensures in
+    record {
+      number = c .before .number-of .ensures ∙ ap (λ (a : Answer). numberOf (a .refusal)) e;
+      line = c .line-number-of .ensures ∙ ap (λ (a : Answer). lineNumberOf (a .refusal)) e;
+      policy = ap (λ (a : Answer). a .tables) e;
+    }
 
 pub sk-read-spec : {M : Type 1} → statement M
 sk-read-spec =

@@ -5,11 +5,9 @@ use mathlib.Core.Bool.{Bool, true, false, cond}
 use mathlib.Core.List.{List}
 use lib.Dec.{leb}
 use borrow.Author.Tests.{leb-false, not-false}
-use Rattle.policy.specs.declared.record.Policy.{Policy}
-use Rattle.policy.specs.Limits.{single}
-use Rattle.policy.specs.Record.{viewOf}
 use Rattle.machine.specs.Machine.{State}
 use Rattle.machine.specs.Place.{isPlace}
+use Rattle.calls.specs.Under.{Under}
 use Rattle.calls.specs.declared.Outcome.{Outcome}
 use Rattle.calls.specs.declared.Outcome.the-variants.{Done, WrongMemory, Unsound, NoPartition, NoLine, NoPlace, TooManyTicks}
 use Rattle.calls.specs.Outcomes.{isDone, wrongMemory, unsound}
@@ -34,17 +32,17 @@ others : (b : Bool) (o rest : Outcome) → isDone o ≡ false → cond b o rest 
 others true o rest n e = cc
 others false o rest n e = e
 
-module _ (policy : Policy) where
-  pub pend-partition : (m : List ℕ) (p line : ℕ) → pendOutcome policy m p line ≡ Done → p < policy .partitions
+module _ (u : Under) where
+  pub pend-partition : (m : List ℕ) (p line : ℕ) → pendOutcome u m p line ≡ Done → p < u .view .partitions
   unfolding pendOutcome
   pend-partition m p line h =
-      leb-false (policy .partitions) p
-      (left (leb (policy .partitions) p) NoPartition _ refl
-      (others (unsound policy) Unsound _ refl (others (wrongMemory single m) WrongMemory _ refl h)))
+      leb-false (u .view .partitions) p
+      (left (leb (u .view .partitions) p) NoPartition _ refl
+      (others (unsound u) Unsound _ refl (others (wrongMemory (u .limits) m) WrongMemory _ refl h)))
 
-  pub run-place : (x : State) (n : ℕ) → runOutcome policy x n ≡ Done → isPlace (viewOf policy) (x .place) ≡ true
+  pub run-place : (x : State) (n : ℕ) → runOutcome u x n ≡ Done → isPlace (u .view) (x .place) ≡ true
   unfolding runOutcome
   run-place x n h =
-      not-false (isPlace (viewOf policy) (x .place))
+      not-false (isPlace (u .view) (x .place))
       (left _ NoPlace _ refl
-      (others (unsound policy) Unsound _ refl (others (wrongMemory single (x .memory)) WrongMemory _ refl h)))
+      (others (unsound u) Unsound _ refl (others (wrongMemory (u .limits) (x .memory)) WrongMemory _ refl h)))

@@ -1,34 +1,31 @@
 -- What every answer of reading a text has: a refusal names a line of the text, or none, and comes with the record of zeros; an accepted record is
 -- sound. By induction on the lines.
-use Prim.Native.Nat.{ℕ, zero, suc, _+_, _≤_, _<_}
-use mathlib.Core.Path.{_≡_, refl, sym, _∙_, ap}
+use Prim.Native.Nat.{ℕ, suc, _+_, _≤_}
+use mathlib.Core.Path.{_≡_, refl, sym, ap}
 use mathlib.Core.Bool.{Bool, true, false, cond, true≢false}
 use mathlib.Core.List.{List, [], _∷_}
 use native.Mathlib.Omega.{arith}
 use borrow.Author.Tests.{ltb-false}
-use lib.Dec.{eqb, ltb}
+use lib.Dec.{eqb}
 use lib.ListN.{length}
 use Rattle.text.specs.Cut.{cut, onto, lineEnd}
 use Rattle.text.specs.Lines.{linesOf, linesBy, linesOfPieces}
 use Rattle.text.specs.Number.{number}
 use Rattle.text.specs.declared.line.Line.{Line}
-use Rattle.policy.specs.declared.record.Policy.{Policy}
-use Rattle.policy.specs.declared.record.Draft.{Draft}
-use Rattle.policy.specs.declared.record.Reading.{Reading}
+use Rattle.policy.specs.declared.record.Key.{Key}
 use Rattle.policy.specs.declared.record.Refusal.{Refusal}
 use Rattle.policy.specs.declared.record.Refusal.the-variants.{Accepted, TooLong, Malformed, OutOfOrder, OutOfRange, Clash, Incomplete, CodeUnreadable, FlowMissing}
-use Rattle.policy.specs.Limits.{single}
+use Rattle.policy.specs.Limits.{Limits, single}
 use Rattle.policy.specs.View.{View}
 use Rattle.policy.specs.Order.{outOfOrder}
 use Rattle.policy.specs.Range.{outOfRange}
 use Rattle.policy.specs.Clash.{clashes}
 use Rattle.policy.specs.Whole.{incomplete, codeUnreadable, flowMissing}
-use Rattle.policy.specs.Record.{zeros, viewOf}
-use Rattle.policy.specs.Draft.{begun, after}
+use Rattle.policy.specs.Tables.{zeros, viewOf}
+use Rattle.policy.specs.Draft.{Draft, begun, after}
 use Rattle.policy.specs.Refusals.{isAccepted, lineNumberOf}
-use Rattle.policy.specs.Read.{isBad, lineRefusal, wholeRefusal, answer, readLines, readBy, readOf}
+use Rattle.policy.specs.Read.{isBad, tooLong, lineRefusal, wholeRefusal, Answer, answer, readLines, readBy, readOf}
 use Rattle.policy.specs.Sound.{Sound}
-use Rattle.policy.specs.Lawful.{Lawful}
 use Rattle.policy.proofs.Accepted.{sound-lawful}
 use Rattle.report.specs.Reportable.{Countable, Reportable}
 
@@ -65,9 +62,9 @@ whole-line v = go (incomplete v) (codeUnreadable v) (flowMissing v)
     go false false true = refl
     go false false false = refl
 
-line-line : (n : ℕ) (d : Draft) (line : Line) → lineNumberOf (lineRefusal single n d line) ≤ n
+line-line : (limits : Limits) (n : ℕ) (before : Key) (v : View) (line : Line) → lineNumberOf (lineRefusal limits n before v line) ≤ n
 unfolding lineRefusal
-line-line n d line = go (isBad line) (outOfOrder (d .before) (viewOf (d .policy)) line) (outOfRange single (viewOf (d .policy)) line) (clashes (viewOf (d .policy)) line)
+line-line limits n before v line = go (isBad line) (outOfOrder before v line) (outOfRange limits v line) (clashes v line)
   where
     go : (a b c e : Bool) → lineNumberOf (cond a (Malformed n) (cond b (OutOfOrder n) (cond c (OutOfRange n) (cond e (Clash n) Accepted)))) ≤ n
     go true b c e = omega arith
@@ -75,41 +72,6 @@ line-line n d line = go (isBad line) (outOfOrder (d .before) (viewOf (d .policy)
     go false false true e = omega arith
     go false false false true = omega arith
     go false false false false = omega arith
-
--- What holds of an answer after the lines from the n-th on.
-record Answered (n : ℕ) (lines : List Line) (r : Reading) : Type 0 where
-  named : lineNumberOf (r .refusal) ≤ n + length lines
-  empty : isAccepted (r .refusal) ≡ false → r .policy ≡ zeros
-
-answered : (lines : List Line) (n : ℕ) (d : Draft) → Answered n lines (readLines single n d lines)
-unfolding readLines
-answered [] n d =
-    record {
-      named = rw (whole-line (viewOf (d .policy))) (omega arith);
-      empty = λ h. rw h;
-    }
-answered (line ∷ lines) n d = go (isAccepted (lineRefusal single n d line)) refl (answered lines (n + 1) (after d line))
-  where
-    rest : Reading
-    rest = readLines single (n + 1) (after d line) lines
-
-    go : (b : Bool) → isAccepted (lineRefusal single n d line) ≡ b → Answered (n + 1) lines rest → Answered n (line ∷ lines) (cond b rest (answer (lineRefusal single n d line) zeros))
-    go true e h = record { named = omega (arith, h .named); empty = h .empty }
-    go false e h = record { named = omega (arith, line-line n d line); empty = λ f. rw e }
-
-whole-answered : (text : List ℕ) (b : Bool) → ltb (single .text) (length text) ≡ b → Answered 16386 [] (cond b (answer TooLong zeros) (readLines single 1 begun (linesOf text)))
-whole-answered text true e = record { named = omega arith; empty = λ h. refl }
-whole-answered text false e =
-    let h = answered (linesOf text) 1 begun in
-    record { named = omega (arith, h .named, lines-length text, ltb-false 16384 (length text) e); empty = h .empty }
-
-text-answered : (text : List ℕ) → Answered 16386 [] (readOf single text)
-unfolding readBy
-text-answered text = whole-answered text (ltb (single .text) (length text)) refl
-
--- "A refusal returns number, line and the record of zeros."
-pub refused-zeros : (text : List ℕ) → isAccepted (readOf single text .refusal) ≡ false → readOf single text .policy ≡ zeros
-refused-zeros text = text-answered text .empty
 
 is-accepted : (r : Refusal) → isAccepted r ≡ true → r ≡ Accepted
 is-accepted Accepted h = refl
@@ -122,20 +84,64 @@ is-accepted Incomplete h = absurd (true≢false (sym h))
 is-accepted CodeUnreadable h = absurd (true≢false (sym h))
 is-accepted FlowMissing h = absurd (true≢false (sym h))
 
-pub accepted-sound : (text : List ℕ) → isAccepted (readOf single text .refusal) ≡ true → Sound (readOf single text .policy)
-accepted-sound text h = record { text = text; gives = ap (λ (r : Refusal). record { refusal = r; policy = readOf single text .policy }) (is-accepted (readOf single text .refusal) h) }
+-- What holds of an answer: the number of a line that it may name, and the record of a refusal.
+record Answered (limits : Limits) (most : ℕ) (a : Answer) : Type 0 where
+  named : lineNumberOf (a .refusal) ≤ most
+  empty : isAccepted (a .refusal) ≡ false → a .tables ≡ zeros limits
 
-countable : (text : List ℕ) (b : Bool) → isAccepted (readOf single text .refusal) ≡ b → Countable (viewOf (readOf single text .policy))
+module _ (limits : Limits) where
+  -- after the lines from the n-th on
+  answered : (lines : List Line) (n : ℕ) (d : Draft) → Answered limits (n + length lines) (readLines limits n d lines)
+  unfolding readLines
+  answered [] n d =
+      record {
+        named = rw (whole-line (viewOf (d .tables))) (omega arith);
+        empty = λ h. rw h;
+      }
+  answered (line ∷ lines) n d = go (isAccepted refusal) refl (answered lines (n + 1) (after d line))
+    where
+      refusal : Refusal
+      refusal = lineRefusal limits n (d .before) (viewOf (d .tables)) line
+
+      rest : Answer
+      rest = readLines limits (n + 1) (after d line) lines
+
+      go : (b : Bool) → isAccepted refusal ≡ b → Answered limits (n + 1 + length lines) rest →
+          Answered limits (n + suc (length lines)) (cond b rest (answer limits refusal (zeros limits)))
+      go true e h = record { named = omega (arith, h .named); empty = h .empty }
+      go false e h = record { named = omega (arith, line-line limits n (d .before) (viewOf (d .tables)) line); empty = λ f. rw e }
+
+  text-answered : (text : List ℕ) → Answered limits (limits .text + 2) (readOf limits text)
+  unfolding readBy
+  text-answered text = go (tooLong limits text) refl
+    where
+      go : (b : Bool) → tooLong limits text ≡ b →
+          Answered limits (limits .text + 2) (cond b (answer limits TooLong (zeros limits)) (readLines limits 1 (begun limits) (linesOf text)))
+      go true e = record { named = omega arith; empty = λ h. refl }
+      go false e =
+          let h = answered (linesOf text) 1 (begun limits) in
+          record { named = omega (arith, h .named, lines-length text, ltb-false (limits .text) (length text) e); empty = h .empty }
+
+  -- "A refusal returns number, line and the record of zeros."
+  pub refused-zeros : (text : List ℕ) → isAccepted (readOf limits text .refusal) ≡ false → readOf limits text .tables ≡ zeros limits
+  refused-zeros text = text-answered text .empty
+
+  pub accepted-sound : (text : List ℕ) → isAccepted (readOf limits text .refusal) ≡ true → Sound limits (readOf limits text .tables)
+  accepted-sound text h =
+      let t = readOf limits text .tables in
+      record { text = text; gives = ap (λ (r : Refusal). record { refusal = r; tables = t }) (is-accepted (readOf limits text .refusal) h) }
+
+countable : (text : List ℕ) (b : Bool) → isAccepted (readOf single text .refusal) ≡ b → Countable (viewOf (readOf single text .tables))
 countable text true e =
-    let w = sound-lawful _ (accepted-sound text e) in
+    let w = sound-lawful single _ (accepted-sound single text e) in
     record { few-segments = w .few-segments; few-partitions = w .few-partitions; few-slots = w .few-slots; ticks-most = w .ticks-most }
 countable text false e =
-    rw (refused-zeros text e)
+    rw (refused-zeros single text e)
     (record { few-segments = omega arith; few-partitions = omega arith; few-slots = omega arith; ticks-most = λ i l. absurd (omega arith) })
 
 pub reportable : (text : List ℕ) → Reportable (readOf single text)
 reportable text =
     record {
       counts = countable text (isAccepted (readOf single text .refusal)) refl;
-      line-short = omega (arith, text-answered text .named);
+      line-short = omega (arith, text-answered single text .named);
     }

@@ -1,43 +1,30 @@
 -- A report fits its buffer: 23 bytes for the first row and 19 for each of at most 32 segments, or one short row.
-use Prim.Native.Nat.{ℕ, zero, suc, _+_, _*_, _≤_, _<_}
-use mathlib.Core.Path.{_≡_, refl}
+use Prim.Native.Nat.{_≤_}
 use mathlib.Core.Bool.{Bool, true, false, cond}
-use mathlib.Core.List.{List, _++_}
+use mathlib.Core.List.{_++_}
 use native.Mathlib.Omega.{arith}
 use lib.ListN.{length, length-append}
-use Rattle.policy.specs.declared.record.Policy.{Policy}
-use Rattle.policy.specs.declared.record.Reading.{Reading}
-use Rattle.policy.specs.Record.{viewOf, givesRead, givesWrite}
+use Rattle.policy.specs.View.{View}
+use Rattle.policy.specs.Tables.{Tables, viewOf}
 use Rattle.policy.specs.Refusals.{isAccepted, numberOf, lineNumberOf}
-use Rattle.report.specs.Report.{acceptedRow, segmentRow, segmentRows, refusedRow, reportOfReading, readMask, writeMask}
-use Rattle.report.specs.Reportable.{Reportable}
-use Rattle.report.proofs.Laws.Masks.{mask-small, reads-same, writes-same}
-use Rattle.report.proofs.Laws.Rows.{accepted-length, segment-length, refused-length, number-small}
+use Rattle.policy.specs.Read.{Answer}
+use Rattle.report.specs.Report.{acceptedRow, segmentRows, refusedRow, reportWith, reportOfReading}
+use Rattle.report.specs.Reportable.{Countable, Reportable}
+use Rattle.report.proofs.Laws.Rows.{accepted-length, rows-length, rows-same, refused-length, number-small}
 
-module _ (p : Policy) (few : p .partitions ≤ 8) where
-  row-length : (s : ℕ) → s < 100 → length (segmentRow (viewOf p) s) ≤ 19
-  unfolding segmentRow
-  row-length s h =
-      segment-length s (readMask (viewOf p) s) (writeMask (viewOf p) s) h
-      (rw (← reads-same p s) (mask-small givesRead (p .save) (p .rights) (p .partitions) s few))
-      (rw (← writes-same p s) (mask-small givesWrite (p .save) (p .rights) (p .partitions) s few))
+rows-fit : (t : Tables) → Countable (viewOf t) → length (segmentRows (viewOf t) (t .segments .count)) ≤ 608
+rows-fit t k =
+    let n = t .segments .count in
+    let few : n ≤ 32 = k .few-segments in
+    let most = rows-length (t .partitions .save) (t .rights .reads) (t .rights .writes) _ n (k .few-partitions) (omega arith) in
+    rw (← rows-same t n) (omega (arith, most))
 
-  rows-length : (n : ℕ) → n ≤ 100 → length (segmentRows (viewOf p) n) ≤ 19 * n
-  unfolding segmentRows
-  rows-length zero h = omega arith
-  rows-length (suc n) h = rw length-append (omega (arith, rows-length n (omega arith), row-length n h))
-
-pub report-fits : (r : Reading) → Reportable r → length (reportOfReading r) ≤ 640
-unfolding reportOfReading refusedRow
-report-fits r h = go (isAccepted (r .refusal))
+pub report-fits : (a : Answer) → Reportable a → length (reportOfReading a) ≤ 640
+unfolding reportWith refusedRow
+report-fits a h = go (isAccepted (a .refusal)) (viewOf (a .tables)) (h .counts) (rows-fit (a .tables) (h .counts))
   where
-    go : (b : Bool) → length (cond b (acceptedRow (viewOf (r .policy)) ++ segmentRows (viewOf (r .policy)) (r .policy .segments)) (refusedRow (r .refusal))) ≤ 640
-    go true =
-        rw length-append
-        (omega (
-          arith,
-          h .counts .few-segments,
-          accepted-length (viewOf (r .policy)) (h .counts),
-          rows-length (r .policy) (h .counts .few-partitions) (r .policy .segments) (omega (arith, h .counts .few-segments)),
-        ))
-    go false = omega (arith, refused-length (numberOf (r .refusal)) (lineNumberOf (r .refusal)) (number-small (r .refusal)) (h .line-short))
+    go : (b : Bool) (v : View) → Countable v → length (segmentRows v (v .segments)) ≤ 608 →
+        length (cond b (acceptedRow v ++ segmentRows v (v .segments)) (refusedRow (a .refusal))) ≤ 640
+    go true v k rows = rw length-append (omega (arith, accepted-length v k))
+    go false v k rows =
+        omega (arith, refused-length (numberOf (a .refusal)) (lineNumberOf (a .refusal)) (number-small (a .refusal)) (h .line-short))

@@ -1,17 +1,16 @@
 -- What a Run has reached after some ticks: the state of so many ticks, and one that stands. A stretch of the present slot's partition and a move of
 -- the place reach as many ticks more, since that is what so many of the machine's ticks are.
-use Prim.Native.Nat.{ℕ, zero, suc, _+_, _-_, _*_, _≤_, _<_, min}
+use Prim.Native.Nat.{ℕ, zero, suc, _+_, _-_, _≤_, _<_, min}
 use mathlib.Core.Path.{_≡_, refl, sym}
 use mathlib.Core.Bool.{true}
 use mathlib.Core.List.{List}
-use native.Mathlib.Nat.{zero-add, suc-add}
+use native.Mathlib.Nat.{zero-add, suc-add, lt-of-lt-of-le}
 use native.Mathlib.Omega.{arith}
 use lib.ListN.{length, getD}
-use Rattle.policy.specs.declared.record.Policy.{Policy}
-use Rattle.policy.specs.Limits.{single}
+use Rattle.policy.specs.Limits.{Limits}
 use Rattle.policy.specs.View.{View}
 use Rattle.policy.specs.Lawful.{Lawful}
-use Rattle.policy.specs.Record.{viewOf}
+use Rattle.policy.specs.Tables.{Tables, viewOf}
 use Rattle.policy.specs.Sound.{soundOf}
 use Rattle.policy.proofs.Lawful.{lawful}
 use Rattle.machine.specs.declared.Place.{Place}
@@ -28,16 +27,16 @@ use Rattle.schedule.proofs.Laws.Places.{moved-within}
 use Rattle.kernel.specs.Stretch.{tickedBy}
 
 -- The partition of the present slot.
-abbrev pub ownerOf : Policy → Place → ℕ
-ownerOf p here = getD (p .owner) (here .slot) 0
+abbrev pub ownerOf : Tables → Place → ℕ
+ownerOf t here = getD (t .slots .owner) (here .slot) 0
 
-pub record Reached (p : Policy) (x : State) (m : List ℕ) (here : Place) (i : ℕ) : Type 0 where
-  pub stands : Stands single (viewOf p) (stateOf m here)
-  pub state : stateOf m here ≡ afterTicks (viewOf p) i x
+pub record Reached (limits : Limits) (t : Tables) (x : State) (m : List ℕ) (here : Place) (i : ℕ) : Type 0 where
+  pub stands : Stands limits (viewOf t) (stateOf m here)
+  pub state : stateOf m here ≡ afterTicks (viewOf t) i x
 
-pub reached-none : (p : Policy) (m : List ℕ) (here : Place) → Stands single (viewOf p) (stateOf m here) → Reached p (stateOf m here) m here 0
+pub reached-none : (limits : Limits) (t : Tables) (m : List ℕ) (here : Place) → Stands limits (viewOf t) (stateOf m here) → Reached limits t (stateOf m here) m here 0
 unfolding afterTicks
-reached-none p m here s = record { stands = s; state = refl }
+reached-none limits t m here s = record { stands = s; state = refl }
 
 ticks-add : (v : View) (i n : ℕ) (x : State) → afterTicks v (i + n) x ≡ afterTicks v n (afterTicks v i x)
 unfolding afterTicks
@@ -56,41 +55,42 @@ ticks-stretch v (suc (suc n)) m here h =
     rw (moved-within v here (omega arith))
     (ticks-stretch v (suc n) (tickOf (seat v p) (v .code p) (v .save p) m) (placeOf (here .slot) (here .used + 1)) (omega arith))
 
-module _ (p : Policy) (sound : soundOf p ≡ true) (x : State) (m : List ℕ) (here : Place) (i : ℕ) (r : Reached p x m here i) where
-  w : Lawful single (viewOf p)
-  w = lawful p sound
+module _ (limits : Limits) (t : Tables) (sound : soundOf limits t ≡ true) (x : State) (m : List ℕ) (here : Place) (i : ℕ) (r : Reached limits t x m here i) where
+  w : Lawful limits (viewOf t)
+  w = lawful limits t sound
 
-  pub slot-in : here .slot < p .slots
-  slot-in = slot-there (viewOf p) here (r .stands .placed)
+  pub slot-in : here .slot < t .slots .count
+  slot-in = slot-there (viewOf t) here (r .stands .placed)
 
-  pub used-in : here .used < getD (p .ticks) (here .slot) 0
-  used-in = used-below (viewOf p) here (r .stands .placed)
+  pub used-in : here .used < getD (t .slots .ticks) (here .slot) 0
+  used-in = used-below (viewOf t) here (r .stands .placed)
 
   -- As many ticks as are left to a Run and to the slot.
-  pub count-in : (left count : ℕ) → 0 < left → count ≡ min left (getD (p .ticks) (here .slot) 0 - here .used)
-      → (0 < count) × (here .used + count ≤ getD (p .ticks) (here .slot) 0) × (count ≤ left)
+  pub count-in : (left count : ℕ) → 0 < left → count ≡ min left (getD (t .slots .ticks) (here .slot) 0 - here .used)
+      → (0 < count) × (here .used + count ≤ getD (t .slots .ticks) (here .slot) 0) × (count ≤ left)
   count-in left count some e = omega (arith, used-in)
 
-  pub slot-below : here .slot < 32
-  slot-below = omega (arith, w .few-slots, slot-in)
+  pub slot-below : here .slot < limits .slots
+  slot-below = lt-of-lt-of-le slot-in (w .few-slots)
 
-  owner-in : ownerOf p here < p .partitions
+  owner-in : ownerOf t here < t .partitions .count
   owner-in = w .owner-there (here .slot) slot-in
 
-  pub owner-below : ownerOf p here < 8
-  owner-below = omega (arith, w .few-partitions, owner-in)
+  pub owner-below : ownerOf t here < limits .partitions
+  owner-below = lt-of-lt-of-le owner-in (w .few-partitions)
 
-  pub tick-fits : Seated (p .base) (p .size) (p .segments) (32 * ownerOf p here) (getD (p .code) (ownerOf p here) 0) (getD (p .save) (ownerOf p here) 0) (length m)
-  tick-fits = rw (r .stands .whole) (record-seated p (ownerOf p here) w owner-in)
+  pub tick-fits : limits .segments ≤ 64 → length (t .segments .base) ≡ limits .segments → length (t .segments .size) ≡ limits .segments
+      → Seated (t .segments .base) (t .segments .size) (t .segments .count) (getD (t .partitions .code) (ownerOf t here) 0) (getD (t .partitions .save) (ownerOf t here) 0) (length m)
+  tick-fits fits bases sizes = rw (r .stands .whole) (record-seated limits t (ownerOf t here) fits bases sizes w owner-in)
 
-  pub reached-more : (count : ℕ) → here .used + count ≤ getD (p .ticks) (here .slot) 0 → (m′ : List ℕ) (here′ : Place)
-      → m′ ≡ tickedBy (seat (viewOf p) (ownerOf p here)) (getD (p .code) (ownerOf p here) 0) (getD (p .save) (ownerOf p here) 0) count m
-      → here′ ≡ movedBy (viewOf p) count here
-      → Reached p x m′ here′ (i + count)
+  pub reached-more : (count : ℕ) → here .used + count ≤ getD (t .slots .ticks) (here .slot) 0 → (m′ : List ℕ) (here′ : Place)
+      → m′ ≡ tickedBy (seat (viewOf t) (ownerOf t here)) (getD (t .partitions .code) (ownerOf t here) 0) (getD (t .partitions .save) (ownerOf t here) 0) count m
+      → here′ ≡ movedBy (viewOf t) count here
+      → Reached limits t x m′ here′ (i + count)
   reached-more count h m′ here′ e f =
-      let v = viewOf p in
+      let v = viewOf t in
       let steps : stateOf m′ here′ ≡ afterTicks v count (stateOf m here) = rw (e, f) (sym (ticks-stretch v count m here h)) in
       record {
-        stands = rw steps (ticks-stand single v count (stateOf m here) w (r .stands));
+        stands = rw steps (ticks-stand limits v count (stateOf m here) w (r .stands));
         state = rw (ticks-add v i count x, ← r .state) steps;
       }

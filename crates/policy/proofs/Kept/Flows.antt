@@ -1,85 +1,71 @@
--- A flow line that is let pass keeps what holds of the record: it sets one byte, at its own place, to 1, and
--- nothing else asks for a flow.
+-- A flow line that is let pass keeps what holds of the record: a pair that stands after it stood before or is its own, and nothing
+-- else asks for a flow.
 use Prim.Native.Nat.{ℕ, _≤_, _<_}
-use mathlib.Core.Path.{_≡_}
-use mathlib.Core.Bool.{true}
+use mathlib.Core.Path.{_≡_, refl}
+use mathlib.Core.Bool.{Bool, true, false, _&&_, or-true, or-false}
 use native.Mathlib.Omega.{arith}
-use borrow.Author.Tests.{ltb-false, leb-false}
-use lib.ListN.{getD, set}
+use borrow.Author.Tests.{ltb-false, leb-false, eqb-true}
+use lib.Dec.{eqb}
 use Rattle.text.specs.declared.line.Line.the-variants.{Flow}
-use Rattle.policy.specs.declared.record.Policy.{Policy}
 use Rattle.policy.specs.declared.record.Key.{Key}
-use Rattle.policy.specs.Limits.{single}
+use Rattle.policy.specs.Limits.{Limits}
 use Rattle.policy.specs.Order.{outOfOrder}
 use Rattle.policy.specs.Range.{outOfRange}
 use Rattle.policy.specs.Clash.{clashes}
-use Rattle.policy.specs.Record.{viewOf, pairAt}
-use Rattle.policy.specs.Draft.{withFlow}
+use Rattle.policy.specs.Tables.{Tables, viewOf}
+use Rattle.policy.specs.Draft.{withFlow, withFlows}
 use Rattle.policy.specs.Sound.{goodSegment, goodPartition, goodRight, goodFlow, goodSlot}
+use Rattle.policy.proofs.Laws.Bools.{and-left, and-right}
 use Rattle.policy.proofs.Laws.Tests.{parts, passes-both}
-use Rattle.policy.proofs.Laws.Stored.{stored-long, stored-each}
-use Rattle.policy.proofs.Laws.Same.{flow-same}
+use Rattle.policy.proofs.Laws.Bits.{bit-at, bit-long, bit-under}
 use Rattle.policy.proofs.Kept.{Kept, Passing}
 
-module _ (p : Policy) (before : Key) (from to : ℕ) (k : Kept p (before .kind))
-    (f : Passing p before (Flow from to)) where
+module _ (limits : Limits) (t : Tables) (before : Key) (from to : ℕ) (k : Kept limits t (before .kind))
+    (f : Passing limits (viewOf t) before (Flow from to)) where
+  abbrev q : Tables
+  q = withFlows t (withFlow (t .flows) from to)
+
   early : before .kind ≤ 3
   unfolding outOfOrder
   early = let o = f .ordered in ltb-false 3 (before .kind) (search parts)
 
-  row : from < 32
+  source : from < limits .segments
   unfolding outOfRange
-  row = let r = f .ranged in omega (arith, k .counts .segments, leb-false (p .segments) from (search parts))
+  source = let r = f .ranged in omega (arith, leb-false (t .segments .count) from (search parts))
 
-  column : to < 32
+  target : to < limits .segments
   unfolding outOfRange
-  column = let r = f .ranged in omega (arith, k .counts .segments, leb-false (p .segments) to (search parts))
+  target = let r = f .ranged in omega (arith, leb-false (t .segments .count) to (search parts))
 
-  abbrev at : ℕ
-  at = pairAt from to
+  pairs : (s u : ℕ) → s < limits .segments → u < limits .segments → goodFlow limits (viewOf q) s u ≡ true
+  unfolding goodFlow outOfRange clashes
+  pairs s u l m = go (eqb u to && eqb s from) refl
+    where
+      go : (b : Bool) → eqb u to && eqb s from ≡ b → goodFlow limits (viewOf q) s u ≡ true
+      go true e =
+          let same-target = eqb-true u to (and-left _ _ e) in
+          let same-source = eqb-true s from (and-right (eqb u to) _ e) in
+          rw (same-target, same-source, passes-both limits (viewOf t) (Flow from to) (f .ranged) (f .clear), or-true)
+      go false e =
+          rw (bit-at (t .flows .sources) (limits .segments) (k .lengths .sources) to from target u s, e, or-false)
+          (k .good .flow s u l m)
 
-  newest : goodFlow single (viewOf p) at 1 ≡ true
-  newest =
-      flow-same single (viewOf p) from to column
-      (passes-both single (viewOf p) (Flow from to) (f .ranged) (f .clear))
-
-  bytes : (i : ℕ) → i < 1024 → goodFlow single (viewOf p) i (getD (set (p .flows) at 1) i 0) ≡ true
-  bytes =
-      stored-each (p .flows) at 1 (λ i byte. goodFlow single (viewOf p) i byte ≡ true) 1024
-      (k .lengths .flows) (omega (arith, row, column)) newest (k .good .flow)
-
-  pub kept-flow : Kept (withFlow p from to) 3
-  unfolding goodSegment goodPartition goodRight goodFlow goodSlot outOfRange clashes
+  pub kept-flow : Kept limits (withFlows t (withFlow (t .flows) from to)) 3
+  unfolding goodSegment goodPartition goodRight goodSlot outOfRange clashes
   kept-flow =
-      let n = k .lengths in
+      let s = source in
+      let u = target in
       record {
-        lengths =
-            record {
-              base = n .base;
-              size = n .size;
-              code = n .code;
-              save = n .save;
-              owner = n .owner;
-              ticks = n .ticks;
-              rights = n .rights;
-              flows = stored-long (p .flows) at 1 1024 (n .flows);
-            };
-        counts = record { segments = k .counts .segments; partitions = k .counts .partitions; slots = k .counts .slots };
-        unused =
-            record {
-              base = k .unused .base;
-              size = k .unused .size;
-              code = k .unused .code;
-              save = k .unused .save;
-              owner = k .unused .owner;
-              ticks = k .unused .ticks;
-            };
+        lengths = search bit-long;
+        counts = search;
+        unused = search;
+        fit = search bit-under;
         good =
             record {
               segment = k .good .segment;
               partition = k .good .partition;
               right = k .good .right;
-              flow = bytes;
+              flow = pairs;
               slot = k .good .slot;
             };
         later =

@@ -1,84 +1,78 @@
--- A right line that is let pass keeps what holds of the record: it sets one byte, at its own place, to what it was tested for, and
--- nothing else asks for a right.
+-- A right line that is let pass keeps what holds of the record: a pair that stands after it stood before or is its own, and nothing
+-- else asks for a right.
 use Prim.Native.Nat.{ℕ, _≤_, _<_}
-use mathlib.Core.Path.{_≡_}
-use mathlib.Core.Bool.{true}
+use mathlib.Core.Path.{_≡_, refl}
+use mathlib.Core.Bool.{Bool, true, false, _&&_, and-false, or-true, or-false}
 use native.Mathlib.Omega.{arith}
-use borrow.Author.Tests.{ltb-false, leb-false}
-use lib.ListN.{getD, set}
+use borrow.Author.Tests.{ltb-false, leb-false, eqb-true}
+use lib.Dec.{eqb}
 use Rattle.text.specs.declared.line.Line.the-variants.{Right}
-use Rattle.policy.specs.declared.record.Policy.{Policy}
 use Rattle.policy.specs.declared.record.Key.{Key}
-use Rattle.policy.specs.Limits.{single}
+use Rattle.policy.specs.Limits.{Limits}
+use Rattle.policy.specs.Modes.{givesRead, givesWrite}
 use Rattle.policy.specs.Order.{outOfOrder}
 use Rattle.policy.specs.Range.{outOfRange}
 use Rattle.policy.specs.Clash.{clashes}
-use Rattle.policy.specs.Record.{viewOf, pairAt}
-use Rattle.policy.specs.Draft.{withRight}
+use Rattle.policy.specs.Tables.{Rights, Tables, viewOf}
+use Rattle.policy.specs.Draft.{withRight, withRights}
 use Rattle.policy.specs.Sound.{goodSegment, goodPartition, goodRight, goodFlow, goodSlot}
+use Rattle.policy.proofs.Laws.Bools.{and-left, and-right}
 use Rattle.policy.proofs.Laws.Tests.{parts, passes-both}
-use Rattle.policy.proofs.Laws.Stored.{stored-long, stored-each}
-use Rattle.policy.proofs.Laws.Same.{right-same}
+use Rattle.policy.proofs.Laws.Bits.{bit-where, long-where, under-where}
 use Rattle.policy.proofs.Kept.{Kept, Passing}
 
-module _ (p : Policy) (before : Key) (partition segment mode : ℕ) (few : mode ≤ 3) (k : Kept p (before .kind))
-    (f : Passing p before (Right partition segment mode)) where
+module _ (limits : Limits) (t : Tables) (before : Key) (partition segment mode : ℕ) (k : Kept limits t (before .kind))
+    (f : Passing limits (viewOf t) before (Right partition segment mode)) where
+  abbrev a : Rights
+  a = t .rights
+
+  abbrev q : Tables
+  q = withRights t (withRight a partition segment mode)
+
   early : before .kind ≤ 2
   unfolding outOfOrder
   early = let o = f .ordered in ltb-false 2 (before .kind) (search parts)
 
-  row : partition < 8
+  row : partition < limits .partitions
   unfolding outOfRange
-  row = let r = f .ranged in omega (arith, k .counts .partitions, leb-false (p .partitions) partition (search parts))
+  row = let r = f .ranged in omega (arith, leb-false (t .partitions .count) partition (search parts))
 
-  column : segment < 32
+  column : segment < limits .segments
   unfolding outOfRange
-  column = let r = f .ranged in omega (arith, k .counts .segments, leb-false (p .segments) segment (search parts))
+  column = let r = f .ranged in omega (arith, leb-false (t .segments .count) segment (search parts))
 
-  abbrev at : ℕ
-  at = pairAt partition segment
+  pairs : (p s : ℕ) → p < limits .partitions → s < limits .segments → goodRight limits (viewOf q) p s ≡ true
+  unfolding goodRight outOfRange clashes
+  pairs p s l m = go (eqb p partition && eqb s segment) refl
+    where
+      go : (b : Bool) → eqb p partition && eqb s segment ≡ b → goodRight limits (viewOf q) p s ≡ true
+      go true e =
+          let same-row = eqb-true p partition (and-left _ _ e) in
+          let same-column = eqb-true s segment (and-right (eqb p partition) _ e) in
+          rw (same-row, same-column, passes-both limits (viewOf t) (Right partition segment mode) (f .ranged) (f .clear), or-true)
+      go false e =
+          rw (
+            bit-where (a .reads) (limits .partitions) (k .lengths .reads) partition segment row (givesRead mode) p s,
+            bit-where (a .writes) (limits .partitions) (k .lengths .writes) partition segment row (givesWrite mode) p s,
+            e,
+          )
+          (simp (and-false, or-false) (k .good .right p s l m))
 
-  newest : goodRight single (viewOf p) at mode ≡ true
-  newest =
-      right-same single (viewOf p) partition segment column mode few
-      (passes-both single (viewOf p) (Right partition segment mode) (f .ranged) (f .clear))
-
-  bytes : (i : ℕ) → i < 256 → goodRight single (viewOf p) i (getD (set (p .rights) at mode) i 0) ≡ true
-  bytes =
-      stored-each (p .rights) at mode (λ i byte. goodRight single (viewOf p) i byte ≡ true) 256
-      (k .lengths .rights) (omega (arith, row, column)) newest (k .good .right)
-
-  pub kept-right : Kept (withRight p partition segment mode) 2
-  unfolding goodSegment goodPartition goodRight goodFlow goodSlot outOfRange clashes
+  pub kept-right : Kept limits (withRights t (withRight (t .rights) partition segment mode)) 2
+  unfolding goodSegment goodPartition goodFlow goodSlot outOfRange clashes
   kept-right =
-      let n = k .lengths in
+      let r = row in
+      let c = column in
       record {
-        lengths =
-            record {
-              base = n .base;
-              size = n .size;
-              code = n .code;
-              save = n .save;
-              owner = n .owner;
-              ticks = n .ticks;
-              rights = stored-long (p .rights) at mode 256 (n .rights);
-              flows = n .flows;
-            };
-        counts = record { segments = k .counts .segments; partitions = k .counts .partitions; slots = k .counts .slots };
-        unused =
-            record {
-              base = k .unused .base;
-              size = k .unused .size;
-              code = k .unused .code;
-              save = k .unused .save;
-              owner = k .unused .owner;
-              ticks = k .unused .ticks;
-            };
+        lengths = search long-where;
+        counts = search;
+        unused = search;
+        fit = search under-where;
         good =
             record {
               segment = k .good .segment;
               partition = k .good .partition;
-              right = bytes;
+              right = pairs;
               flow = k .good .flow;
               slot = k .good .slot;
             };

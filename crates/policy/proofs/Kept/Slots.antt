@@ -7,79 +7,64 @@ use borrow.Author.Count.{below-more}
 use borrow.Author.Tests.{leb-false}
 use lib.ListN.{getD}
 use Rattle.text.specs.declared.line.Line.the-variants.{Slot}
-use Rattle.policy.specs.declared.record.Policy.{Policy}
 use Rattle.policy.specs.declared.record.Key.{Key}
-use Rattle.policy.specs.Limits.{single}
+use Rattle.policy.specs.Limits.{Limits}
 use Rattle.policy.specs.Range.{outOfRange}
 use Rattle.policy.specs.Clash.{clashes}
-use Rattle.policy.specs.Record.{viewOf}
-use Rattle.policy.specs.Draft.{withSlot}
+use Rattle.policy.specs.Tables.{Slots, Tables, viewOf}
+use Rattle.policy.specs.Draft.{withSlot, withSlots}
 use Rattle.policy.specs.Sound.{firstSlots, goodSegment, goodPartition, goodRight, goodFlow, goodSlot}
 use Rattle.policy.proofs.Laws.Tests.{parts, passes-both}
 use Rattle.policy.proofs.Laws.Stored.{stored-long, stored-at, stored-below, stored-rest}
 use Rattle.policy.proofs.Laws.Same.{slot-same}
 use Rattle.policy.proofs.Kept.{Kept, Passing}
 
-module _ (p : Policy) (before : Key) (owner ticks : ℕ) (k : Kept p (before .kind)) (f : Passing p before (Slot owner ticks)) where
-  abbrev q : Policy
-  q = withSlot p owner ticks
+module _ (limits : Limits) (t : Tables) (before : Key) (owner ticks : ℕ) (k : Kept limits t (before .kind))
+    (f : Passing limits (viewOf t) before (Slot owner ticks)) where
+  abbrev a : Slots
+  a = t .slots
 
-  room : p .slots < 32
+  abbrev q : Tables
+  q = withSlots t (withSlot a owner ticks)
+
+  room : a .count < limits .slots
   unfolding outOfRange
-  room = let r = f .ranged in leb-false 32 (p .slots) (search parts)
+  room = let r = f .ranged in leb-false (limits .slots) (a .count) (search parts)
 
-  older : (i : ℕ) → i < p .slots → goodSlot single (viewOf q) i ≡ true
+  older : (i : ℕ) → i < a .count → goodSlot limits (viewOf q) i ≡ true
   unfolding goodSlot
   older i l =
-      slot-same single (viewOf q) (firstSlots (viewOf p) i) i (getD (p .owner) i 0) (getD (p .ticks) i 0)
-      (stored-below (p .owner) (p .slots) owner i l)
-      (stored-below (p .ticks) (p .slots) ticks i l)
+      slot-same limits (viewOf q) (firstSlots (viewOf t) i) i (getD (a .owner) i 0) (getD (a .ticks) i 0)
+      (stored-below (a .owner) (a .count) owner i l)
+      (stored-below (a .ticks) (a .count) ticks i l)
       refl
       refl
       ∙ k .good .slot i l
 
-  newest : goodSlot single (viewOf q) (p .slots) ≡ true
+  newest : goodSlot limits (viewOf q) (a .count) ≡ true
   newest =
-      slot-same single (viewOf q) (viewOf p) (p .slots) owner ticks
-      (stored-at (p .owner) (p .slots) owner 32 (k .lengths .owner) room)
-      (stored-at (p .ticks) (p .slots) ticks 32 (k .lengths .ticks) room)
+      slot-same limits (viewOf q) (viewOf t) (a .count) owner ticks
+      (stored-at (a .owner) (a .count) owner (limits .slots) (k .lengths .owner) room)
+      (stored-at (a .ticks) (a .count) ticks (limits .slots) (k .lengths .ticks) room)
       refl
       refl
-      ∙ passes-both single (viewOf p) (Slot owner ticks) (f .ranged) (f .clear)
+      ∙ passes-both limits (viewOf t) (Slot owner ticks) (f .ranged) (f .clear)
 
-  pub kept-slot : Kept (withSlot p owner ticks) 4
+  pub kept-slot : Kept limits (withSlots t (withSlot (t .slots) owner ticks)) 4
   unfolding goodSegment goodPartition goodRight goodFlow outOfRange clashes
   kept-slot =
-      let n = k .lengths in
       record {
-        lengths =
-            record {
-              base = n .base;
-              size = n .size;
-              code = n .code;
-              save = n .save;
-              owner = stored-long (p .owner) (p .slots) owner 32 (n .owner);
-              ticks = stored-long (p .ticks) (p .slots) ticks 32 (n .ticks);
-              rights = n .rights;
-              flows = n .flows;
-            };
-        counts = record { segments = k .counts .segments; partitions = k .counts .partitions; slots = omega (arith, room) };
-        unused =
-            record {
-              base = k .unused .base;
-              size = k .unused .size;
-              code = k .unused .code;
-              save = k .unused .save;
-              owner = stored-rest (p .owner) (p .slots) owner (k .unused .owner);
-              ticks = stored-rest (p .ticks) (p .slots) ticks (k .unused .ticks);
-            };
+        lengths = search stored-long;
+        counts = omega (arith, room);
+        unused = search stored-rest;
+        fit = search;
         good =
             record {
               segment = k .good .segment;
               partition = k .good .partition;
               right = k .good .right;
               flow = k .good .flow;
-              slot = below-more (λ i. goodSlot single (viewOf q) i ≡ true) (p .slots) older newest;
+              slot = below-more (λ i. goodSlot limits (viewOf q) i ≡ true) (a .count) older newest;
             };
         later =
             record {

@@ -102,3 +102,11 @@ module _ (f g : ℕ → Bool) where
   unfolding eachBelow
   each-same zero h = refl
   each-same (suc n) h = rw (each-same n (λ i l. h i (omega arith)), h n (omega arith))
+
+-- Each pair of numbers below two bounds.
+module _ (f : ℕ → ℕ → Bool) (n m : ℕ) where
+  pub pairs-at : eachBelow n (λ i. eachBelow m (f i)) ≡ true → (i j : ℕ) → i < n → j < m → f i j ≡ true
+  pairs-at h i j l k = each-at (f i) m (each-at (λ i. eachBelow m (f i)) n h i l) j k
+
+  pub pairs-of : ((i j : ℕ) → i < n → j < m → f i j ≡ true) → eachBelow n (λ i. eachBelow m (f i)) ≡ true
+  pairs-of h = each-of (λ i. eachBelow m (f i)) n (λ i l. each-of (f i) m (λ j k. h i j l k))

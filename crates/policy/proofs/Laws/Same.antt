@@ -1,17 +1,13 @@
 -- The test of an entry is that of the line that put it there: it asks only for that entry, those before it, and the counts it names.
-use Prim.Native.Nat.{ℕ, _≤_, _<_}
+use Prim.Native.Nat.{ℕ, _<_}
 use mathlib.Core.Path.{_≡_}
-use mathlib.Core.Bool.{true, or-true}
-use borrow.Author.Tests.{le-leb}
-use Rattle.text.specs.declared.line.Line.the-variants.{Segment, Partition, Right, Flow, Slot}
+use Rattle.text.specs.declared.line.Line.the-variants.{Segment, Partition, Slot}
 use Rattle.policy.specs.Limits.{Limits}
 use Rattle.policy.specs.View.{View}
 use Rattle.policy.specs.Range.{outOfRange}
 use Rattle.policy.specs.Clash.{clashes, overlaps, shares}
-use Rattle.policy.specs.Record.{pairAt}
-use Rattle.policy.specs.Sound.{passes, goodSegment, goodPartition, goodRight, goodFlow, goodSlot}
+use Rattle.policy.specs.Sound.{passes, goodSegment, goodPartition, goodSlot}
 use Rattle.policy.proofs.Laws.Below.{some-same}
-use Rattle.policy.proofs.Laws.Pairs.{pair-row, pair-column}
 
 module _ (limits : Limits) (v w : View) (i : ℕ) where
   pub segment-same : (base size : ℕ) → v .base i ≡ base → v .size i ≡ size → w .segments ≡ i →
@@ -33,12 +29,3 @@ module _ (limits : Limits) (v w : View) (i : ℕ) where
       goodSlot limits v i ≡ passes limits w (Slot owner ticks)
   unfolding goodSlot outOfRange clashes
   slot-same owner ticks o t n m = rw (o, t, n, m)
-
-module _ (limits : Limits) (v : View) (a b : ℕ) (column : b < 32) where
-  pub right-same : (mode : ℕ) → mode ≤ 3 → passes limits v (Right a b mode) ≡ true → goodRight limits v (pairAt a b) mode ≡ true
-  unfolding goodRight
-  right-same mode few h = rw (pair-row a b column, pair-column a b column, le-leb mode 3 few, h, or-true)
-
-  pub flow-same : passes limits v (Flow a b) ≡ true → goodFlow limits v (pairAt a b) 1 ≡ true
-  unfolding goodFlow
-  flow-same h = rw (pair-row a b column, pair-column a b column) h

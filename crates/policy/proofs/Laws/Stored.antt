@@ -4,7 +4,6 @@ use mathlib.Core.Path.{_≡_, _∙_}
 use mathlib.Core.Bool.{true}
 use mathlib.Core.List.{List}
 use native.Mathlib.Omega.{arith}
-use native.Mathlib.Decide.{ℕ-discrete}
 use lib.ListN.{length, getD, drop, set, length-set}
 use lib.Seq.{getD-set-same, getD-set-other, drop-set-lt}
 use Rattle.policy.specs.Sound.{allZero}
@@ -20,14 +19,5 @@ module _ (l : List ℕ) (i x : ℕ) where
   pub stored-below : (j : ℕ) → j < i → getD (set l i x) j 0 ≡ getD l j 0
   stored-below j s = getD-set-other l i j x 0 (λ e. omega arith)
 
-  pub stored-rest : allZero (drop i l) ≡ true → allZero (drop (i + 1) (set l i x)) ≡ true
-  stored-rest h = rw (drop-set-lt (i + 1) l i x (omega arith)) (zero-more l i h)
-
-  -- what holds of each place with its entry
-  pub stored-each : (P : ℕ → ℕ → Type 0) (n : ℕ) → length l ≡ n → i < n → P i x →
-      ((j : ℕ) → j < n → P j (getD l j 0)) → (j : ℕ) → j < n → P j (getD (set l i x) j 0)
-  stored-each P n h s new all j m = go (ℕ-discrete j i)
-    where
-      go : Dec (j ≡ i) → P j (getD (set l i x) j 0)
-      go (yes e) = rw (e, stored-at n h s) new
-      go (no d) = rw (getD-set-other l i j x 0 d) (all j m)
+  pub stored-rest : (n : ℕ) → i ≡ n → allZero (drop n l) ≡ true → allZero (drop (i + 1) (set l i x)) ≡ true
+  stored-rest n e h = rw (drop-set-lt (i + 1) l i x (omega arith)) (zero-more l i (rw e h))

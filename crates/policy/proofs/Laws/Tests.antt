@@ -1,15 +1,16 @@
 -- What a passed test of an entry says in numbers: no test of rules 4 and 5 was met, and each of them is turned into its fact.
-use Prim.Native.Nat.{ℕ, _+_, _≤_, _<_, _/_, _%_}
-use mathlib.Core.Path.{_≡_, refl, sym, _∙_}
-use mathlib.Core.Bool.{Bool, true, false, _&&_, _||_, not, true≢false}
+use Prim.Native.Nat.{ℕ, _+_, _≤_, _<_}
+use mathlib.Core.Path.{_≡_, refl, sym, _∙_, ap}
+use mathlib.Core.Bool.{Bool, true, false, _||_, not, true≢false}
 use mathlib.Core.Logic.{_⊎_, inl, inr}
 use native.Mathlib.Omega.{arith}
 use native.Mathlib.Decide.{decLe}
-use borrow.Author.Tests.{ltb-false, leb-false, eqb-true, eqb-false, not-true, not-false, eq-eqb, ne-eqb, lt-ltb}
-use lib.Dec.{eqb, leb}
+use borrow.Author.Tests.{ltb-false, leb-false, eqb-true, eqb-false, not-true, not-false, eq-eqb, lt-ltb}
+use lib.Dec.{eqb}
 use Rattle.text.specs.declared.line.Line.{Line}
 use Rattle.text.specs.declared.line.Line.the-variants.{Segment, Partition, Right, Flow, Slot}
 use Rattle.policy.specs.Limits.{Limits, longestSegment, saveSize, mostTicks}
+use Rattle.policy.specs.Modes.{modeIn}
 use Rattle.policy.specs.View.{View}
 use Rattle.policy.specs.Range.{outOfRange}
 use Rattle.policy.specs.Clash.{clashes, overlaps, shares}
@@ -121,26 +122,25 @@ module _ (limits : Limits) (v : View) (i : ℕ) (h : goodSlot limits v i ≡ tru
   unfolding outOfRange
   slot-most = let r = slot-ranged in ltb-false mostTicks (v .ticks i) (search parts)
 
-module _ (limits : Limits) (v : View) (k : ℕ) where
-  pub right-on-save : (mode : ℕ) → goodRight limits v k mode ≡ true →
-      (q : ℕ) → q < v .partitions → k % 32 ≡ v .save q → mode ≡ 0
+module _ (limits : Limits) (v : View) where
+  -- No line gives a right on a save segment.
+  pub right-on-save : (p s : ℕ) → goodRight limits v p s ≡ true →
+      (q : ℕ) → q < v .partitions → s ≡ v .save q → v .reads p s || v .writes p s ≡ false
   unfolding goodRight clashes
-  right-on-save mode h q l e = go (eqb mode 0) refl
+  right-on-save p s h q l e = go (v .reads p s || v .writes p s) refl
     where
       line : Line
-      line = Right (k / 32) (k % 32) mode
+      line = Right p s (modeIn v p s)
 
-      go : (b : Bool) → eqb mode 0 ≡ b → mode ≡ 0
-      go true t = eqb-true mode 0 t
-      go false t =
-          let r = and-right (leb mode 3) (passes limits v line) (or-rest (eqb mode 0) (leb mode 3 && passes limits v line) h t) in
-          let s = some-found (λ q. eqb (k % 32) (v .save q)) (v .partitions) q l (eq-eqb (k % 32) (v .save q) e) in
-          absurd (true≢false (sym s ∙ passes-clear limits v line r))
+      go : (b : Bool) → v .reads p s || v .writes p s ≡ b → v .reads p s || v .writes p s ≡ false
+      go false t = t
+      go true t =
+          let r : passes limits v line ≡ true = or-rest (not (v .reads p s || v .writes p s)) (passes limits v line) h (ap not t) in
+          let o = some-found (λ q. eqb s (v .save q)) (v .partitions) q l (eq-eqb s (v .save q) e) in
+          absurd (true≢false (sym o ∙ passes-clear limits v line r))
 
-  pub flow-goes : (byte : ℕ) → goodFlow limits v k byte ≡ true → byte ≡ 1 → k / 32 ≡ k % 32 → ⊥
+  pub flow-goes : (s t : ℕ) → goodFlow limits v s t ≡ true → v .flow s t ≡ true → s ≡ t → ⊥
   unfolding goodFlow clashes
-  flow-goes byte h one e =
-      let line = Flow (k / 32) (k % 32) in
-      let t = ne-eqb byte 0 (omega arith) in
-      let r = and-right (eqb byte 1) (passes limits v line) (or-rest (eqb byte 0) (eqb byte 1 && passes limits v line) h t) in
-      eqb-false (k / 32) (k % 32) (passes-clear limits v line r) e
+  flow-goes s t h one =
+      eqb-false s t
+      (passes-clear limits v (Flow s t) (or-rest (not (v .flow s t)) (passes limits v (Flow s t)) h (ap not one)))

@@ -1,4 +1,4 @@
--- Entries that are 0: what stands after the first of them is 0 too, and a byte 0 of the rights or the flows passes its test.
+-- Entries that are 0: what stands after the first of them is 0 too, and in a list of zeros each is.
 use Prim.Native.Nat.{ℕ, zero, suc, _+_}
 use mathlib.Core.Path.{_≡_, refl}
 use mathlib.Core.Bool.{true}
@@ -6,9 +6,9 @@ use mathlib.Core.List.{List, [], _∷_}
 use lib.ListN.{getD, drop, replicate}
 use lib.Seq.{drop-drop}
 use lib.Dec.{eqb}
-use Rattle.policy.specs.Limits.{Limits}
-use Rattle.policy.specs.View.{View}
-use Rattle.policy.specs.Sound.{allZero, goodRight, goodFlow}
+use lib.Pow.{pow-pos}
+use Rattle.bits.specs.Masks.{AllUnder}
+use Rattle.policy.specs.Sound.{allZero}
 use Rattle.policy.proofs.Laws.Bools.{and-right}
 
 zero-tail : (l : List ℕ) → allZero l ≡ true → allZero (drop 1 l) ≡ true
@@ -24,11 +24,10 @@ zero-at zero k = refl
 zero-at (suc n) zero = refl
 zero-at (suc n) (suc k) = zero-at n k
 
-module _ (limits : Limits) (v : View) (k byte : ℕ) (e : byte ≡ 0) where
-  pub no-right : goodRight limits v k byte ≡ true
-  unfolding goodRight
-  no-right = rw e
+pub zero-under : (n width : ℕ) → AllUnder width (replicate n 0)
+zero-under n width i = rw (zero-at n i) (pow-pos width)
 
-  pub no-flow : goodFlow limits v k byte ≡ true
-  unfolding goodFlow
-  no-flow = rw e
+pub zero-rest : (n : ℕ) → allZero (drop 0 (replicate n 0)) ≡ true
+unfolding allZero
+zero-rest zero = refl
+zero-rest (suc n) = zero-rest n

@@ -1,97 +1,87 @@
 -- The lines of a record that passes are of the widths that the head's limits allow: rules 4 and 5, read for numbers.
-use Prim.Native.Nat.{ℕ, zero, suc, _+_, _≤_, _<_, _/_, _%_}
-use mathlib.Core.Path.{_≡_}
-use mathlib.Core.Bool.{cond}
+use Prim.Native.Nat.{ℕ, zero, suc, _+_, _≤_, _<_}
+use mathlib.Core.Path.{_≡_, refl}
+use mathlib.Core.Bool.{Bool, true, false, cond, _||_, false≢true}
 use mathlib.Core.List.{List, [], _∷_, _++_}
 use native.Mathlib.Omega.{arith}
-use native.Mathlib.Decide.{ℕ-discrete}
-use borrow.Author.Tests.{ltb-false, leb-false, eqb-false, eq-eqb, ne-eqb}
-use lib.ListN.{getD}
-use lib.Dec.{eqb, ltb}
+use borrow.Author.Tests.{eqb-false}
 use Rattle.text.specs.declared.line.Line.{Line}
 use Rattle.text.specs.declared.line.Line.the-variants.{Bad, Segment, Partition, Right, Flow, Slot}
+use Rattle.policy.specs.Limits.{Limits, longestSegment, mostTicks}
+use Rattle.policy.specs.Modes.{modeIn}
 use Rattle.policy.specs.View.{View}
-use Rattle.policy.specs.Range.{outOfRange, isFull, noSegment, noPartition, outside}
 use Rattle.policy.specs.Clash.{clashes}
-use Rattle.policy.specs.Record.{viewOf}
-use Rattle.policy.specs.Sound.{firstPartitions, firstSlots}
-use Rattle.policy.specs.declared.record.Policy.{Policy}
+use Rattle.policy.specs.Tables.{Tables, viewOf}
+use Rattle.policy.proofs.Laws.Tests.{passes-clear, segment-least, segment-most, segment-inside, partition-code, partition-save, slot-owner, slot-most}
 use Rattle.printer.specs.Printer.{linesBelow, segmentAt, partitionAt, rightAt, flowAt, slotAt, segmentLines, partitionLines, rightLines, flowLines, slotLines, linesOfRecord}
-use Rattle.printer.proofs.Laws.Chains.{disjunct}
+use Rattle.printer.specs.Roomy.{Roomy}
 use Rattle.printer.proofs.Laws.Lines.{Printable, All}
-use Rattle.printer.proofs.Laws.Passed.{Allowed, Passed}
+use Rattle.printer.proofs.Laws.Passed.{Passed}
 
--- Within the limits of the single head.
-abbrev pub Fits : Line → Type 0
-Fits Bad = ⊥
-Fits (Segment id base size) = (id < 32) × (base < 16384) × (size ≤ 4096)
-Fits (Partition id code save) = (id < 8) × (code < 32) × (save < 32)
-Fits (Right partition segment mode) = (partition < 8) × (segment < 32) × (1 ≤ mode) × (mode ≤ 3)
-Fits (Flow from to) = (from < 32) × (to < 32) × (from ≡ to → ⊥)
-Fits (Slot partition ticks) = (partition < 8) × (ticks ≤ 1000)
+-- Within the limits of the head.
+abbrev pub Fits : Limits → Line → Type 0
+Fits limits Bad = ⊥
+Fits limits (Segment id base size) = (id < limits .segments) × (base < limits .memory) × (size ≤ longestSegment)
+Fits limits (Partition id code save) = (id < limits .partitions) × (code < limits .segments) × (save < limits .segments)
+Fits limits (Right partition segment mode) =
+    (partition < limits .partitions) × (segment < limits .segments) × (1 ≤ mode) × (mode ≤ 3)
+Fits limits (Flow from to) = (from < limits .segments) × (to < limits .segments) × (from ≡ to → ⊥)
+Fits limits (Slot partition ticks) = (partition < limits .partitions) × (ticks ≤ mostTicks)
 
-pub fits-printable : (line : Line) → Fits line → Printable line
-fits-printable Bad h = h
-fits-printable (Segment id base size) h = (omega arith, omega arith, omega arith)
-fits-printable (Partition id code save) h = (omega arith, omega arith, omega arith)
-fits-printable (Right partition segment mode) h = (omega arith, omega arith, h .2, h .3)
-fits-printable (Flow from to) h = (omega arith, omega arith)
-fits-printable (Slot partition ticks) h = (omega arith, omega arith)
+fits-printable : (limits : Limits) → Roomy limits → (line : Line) → Fits limits line → Printable line
+fits-printable limits r Bad h = h
+fits-printable limits r (Segment id base size) h = (omega arith, omega arith, omega arith)
+fits-printable limits r (Partition id code save) h = (omega arith, omega arith, omega arith)
+fits-printable limits r (Right partition segment mode) h = (omega arith, omega arith, h .2, h .3)
+fits-printable limits r (Flow from to) h = (omega arith, omega arith)
+fits-printable limits r (Slot partition ticks) h = (omega arith, omega arith)
 
--- A byte that is 0 has no line, any other has one.
-pub byte-cases : (P : List Line → Type 0) (byte : ℕ) (line : Line) →
-    (byte ≡ 0 → P []) → ((byte ≡ 0 → ⊥) → P (line ∷ [])) → P (cond (eqb byte 0) [] (line ∷ []))
-byte-cases P byte line none one = go (ℕ-discrete byte 0)
-  where
-    go : Dec (byte ≡ 0) → P (cond (eqb byte 0) [] (line ∷ []))
-    go (yes e) = rw (eq-eqb byte 0 e) (none e)
-    go (no ne) = rw (ne-eqb byte 0 ne) (one ne)
+-- A pair that stands has a line, any other has none.
+pub pair-cases : (P : List Line → Type 0) (b : Bool) (line : Line) →
+    (b ≡ false → P []) → (b ≡ true → P (line ∷ [])) → P (cond b (line ∷ []) [])
+pair-cases P true line none one = one refl
+pair-cases P false line none one = none refl
 
-segment-range : (v : View) (id base size : ℕ) → Allowed v (Segment id base size) → (base < 16384) × (size ≤ 4096)
-unfolding outOfRange
-segment-range v id base size h =
-    let r = disjunct (isFull 32 (v .segments)) (outside 1 4096 size ∷ ltb 16384 (base + size) ∷ []) (h .in-range) in
-    let o = disjunct (ltb size 1) (ltb 4096 size ∷ []) (r 1) in
-    let inside : base + size ≤ 16384 = ltb-false 16384 (base + size) (r 2) in
-    let least : 1 ≤ size = ltb-false size 1 (o 0) in
-    let most : size ≤ 4096 = ltb-false 4096 size (o 1) in
-    (omega arith, most)
+-- The letters of a pair that stands.
+some-mode : (r w : Bool) → r || w ≡ true → (1 ≤ cond r 1 0 + cond w 2 0) × (cond r 1 0 + cond w 2 0 ≤ 3)
+some-mode true true h = (omega arith, omega arith)
+some-mode true false h = (omega arith, omega arith)
+some-mode false true h = (omega arith, omega arith)
+some-mode false false h = absurd (false≢true h)
 
-module _ (v : View) (few-segments : v .segments ≤ 32) (few-partitions : v .partitions ≤ 8) where
-  partition-range : (id code save : ℕ) → Allowed v (Partition id code save) → (code < 32) × (save < 32)
-  unfolding outOfRange
-  partition-range id code save h =
-      let r = disjunct (isFull 8 (v .partitions)) (noSegment v code ∷ noSegment v save ∷ []) (h .in-range) in
-      let c : code < v .segments = leb-false (v .segments) code (r 1) in
-      let s : save < v .segments = leb-false (v .segments) save (r 2) in
-      (omega arith, omega arith)
+module _ (limits : Limits) (t : Tables) (h : Passed limits t) where
+  abbrev v : View
+  v = viewOf t
 
-  right-range : (partition segment mode : ℕ) → Allowed v (Right partition segment mode) → (partition < 8) × (segment < 32)
-  unfolding outOfRange
-  right-range partition segment mode h =
-      let r = disjunct (noPartition v partition) (noSegment v segment ∷ []) (h .in-range) in
-      let q : partition < v .partitions = leb-false (v .partitions) partition (r 0) in
-      let s : segment < v .segments = leb-false (v .segments) segment (r 1) in
-      (omega arith, omega arith)
+  pub segment-fits : (i : ℕ) → i < v .segments → Fits limits (Segment i (v .base i) (v .size i))
+  segment-fits i l =
+      let g = h .segment i l in (
+        omega (arith, h .few-segments),
+        omega (arith, segment-least limits v i g, segment-inside limits v i g),
+        segment-most limits v i g,
+      )
 
-  flow-range : (from to : ℕ) → Allowed v (Flow from to) → Fits (Flow from to)
-  unfolding outOfRange clashes
-  flow-range from to h =
-      let r = disjunct (noSegment v from) (noSegment v to ∷ []) (h .in-range) in
-      let f : from < v .segments = leb-false (v .segments) from (r 0) in
-      let t : to < v .segments = leb-false (v .segments) to (r 1) in
-      (omega arith, omega arith, eqb-false from to (h .no-clash))
+  pub partition-fits : (i : ℕ) → i < v .partitions → Fits limits (Partition i (v .code i) (v .save i))
+  partition-fits i l =
+      let g = h .partition i l in (
+        omega (arith, h .few-partitions),
+        omega (arith, h .few-segments, partition-code limits v i g),
+        omega (arith, h .few-segments, partition-save limits v i g),
+      )
 
-  slot-range : (partition ticks : ℕ) → Allowed v (Slot partition ticks) → Fits (Slot partition ticks)
-  unfolding outOfRange
-  slot-range partition ticks h =
-      let r = disjunct (isFull 32 (v .slots)) (noPartition v partition ∷ outside 1 1000 ticks ∷ []) (h .in-range) in
-      let o = disjunct (ltb ticks 1) (ltb 1000 ticks ∷ []) (r 2) in
-      let q : partition < v .partitions = leb-false (v .partitions) partition (r 1) in
-      let most : ticks ≤ 1000 = ltb-false 1000 ticks (o 1) in
-      (omega arith, most)
+  pub right-fits : (p s : ℕ) → p < limits .partitions → s < limits .segments → v .reads p s || v .writes p s ≡ true →
+      Fits limits (Right p s (modeIn v p s))
+  right-fits p s l k e = let m = some-mode (v .reads p s) (v .writes p s) e in (l, k, m .0, m .1)
 
-pub all-append : (P : Line → Type 0) (xs ys : List Line) → All P xs → All P ys → All P (xs ++ ys)
+  pub flow-fits : (s u : ℕ) → s < limits .segments → u < limits .segments → v .flow s u ≡ true → Fits limits (Flow s u)
+  unfolding clashes
+  flow-fits s u l k e = (l, k, eqb-false s u (passes-clear limits v (Flow s u) (h .flow s u l k e)))
+
+  pub slot-fits : (i : ℕ) → i < v .slots → Fits limits (Slot (v .owner i) (v .ticks i))
+  slot-fits i l =
+      let g = h .slot i l in (omega (arith, h .few-partitions, slot-owner limits v i g), slot-most limits v i g)
+
+all-append : (P : Line → Type 0) (xs ys : List Line) → All P xs → All P ys → All P (xs ++ ys)
 all-append P [] ys h e = e
 all-append P (x ∷ xs) ys h e = (h .0, all-append P xs ys (h .1) e)
 
@@ -101,46 +91,26 @@ all-below P zero f h = tt
 all-below P (suc n) f h =
     all-append P (linesBelow n f) (f n) (all-below P n f (λ i l. h i (omega arith))) (h n (omega arith))
 
-module _ (p : Policy) (h : Passed p) where
-  pub segment-fits : (i : ℕ) → i < p .segments → Fits (Segment i (getD (p .base) i 0) (getD (p .size) i 0))
-  segment-fits i l =
-      let r = segment-range _ _ _ _ (h .segment i l) in
-      (omega (arith, h .few-segments), r .0, r .1)
-
-  pub partition-fits : (i : ℕ) → i < p .partitions → Fits (Partition i (getD (p .code) i 0) (getD (p .save) i 0))
-  partition-fits i l =
-      let few : i < 8 = omega (arith, h .few-partitions) in
-      let r = partition-range (firstPartitions (viewOf p) i) (h .few-segments) (omega arith) _ _ _ (h .partition i l) in
-      (few, r .0, r .1)
-
-  pub right-fits : (k : ℕ) → k < 256 → (getD (p .rights) k 0 ≡ 0 → ⊥) →
-      Fits (Right (k / 32) (k % 32) (getD (p .rights) k 0))
-  right-fits k l ne =
-      let r = right-range (viewOf p) (h .few-segments) (h .few-partitions) _ _ _ (h .right k l ne) in
-      (r .0, r .1, omega arith, h .mode k l ne)
-
-  pub flow-fits : (k : ℕ) → k < 1024 → (getD (p .flows) k 0 ≡ 0 → ⊥) → Fits (Flow (k / 32) (k % 32))
-  flow-fits k l ne = flow-range (viewOf p) (h .few-segments) (h .few-partitions) _ _ (h .flow k l ne)
-
-  pub slot-fits : (i : ℕ) → i < p .slots → Fits (Slot (getD (p .owner) i 0) (getD (p .ticks) i 0))
-  slot-fits i l = slot-range (firstSlots (viewOf p) i) (h .few-segments) (h .few-partitions) _ _ (h .slot i l)
-
-  pub record-fits : All Fits (linesOfRecord p)
-  unfolding linesOfRecord
-  record-fits =
-      all-append Fits (segmentLines p ++ partitionLines p ++ rightLines p ++ flowLines p) (slotLines p)
-      (all-append Fits (segmentLines p ++ partitionLines p ++ rightLines p) (flowLines p)
-      (all-append Fits (segmentLines p ++ partitionLines p) (rightLines p)
-      (all-append Fits (segmentLines p) (partitionLines p)
-      (all-below Fits (p .segments) (segmentAt p) (λ i l. (segment-fits i l, tt)))
-      (all-below Fits (p .partitions) (partitionAt p) (λ i l. (partition-fits i l, tt))))
-      (all-below Fits 256 (rightAt p) (λ k l. byte-cases (All Fits) _ _ (λ e. tt) (λ ne. (right-fits k l ne, tt)))))
-      (all-below Fits 1024 (flowAt p) (λ k l. byte-cases (All Fits) _ _ (λ e. tt) (λ ne. (flow-fits k l ne, tt)))))
-      (all-below Fits (p .slots) (slotAt p) (λ i l. (slot-fits i l, tt)))
-
-pub all-map : (P Q : Line → Type 0) → ((line : Line) → P line → Q line) → (lines : List Line) → All P lines → All Q lines
+all-map : (P Q : Line → Type 0) → ((line : Line) → P line → Q line) → (lines : List Line) → All P lines → All Q lines
 all-map P Q f [] h = tt
 all-map P Q f (line ∷ lines) h = (f line (h .0), all-map P Q f lines (h .1))
 
-pub record-printable : (p : Policy) → Passed p → All Printable (linesOfRecord p)
-record-printable p h = all-map Fits Printable fits-printable (linesOfRecord p) (record-fits p h)
+module _ (limits : Limits) (t : Tables) (h : Passed limits t) where
+  record-fits : All (Fits limits) (linesOfRecord limits t)
+  unfolding linesOfRecord
+  record-fits =
+      let v = viewOf t in
+      all-append (Fits limits) (segmentLines v ++ partitionLines v ++ rightLines limits v ++ flowLines limits v) (slotLines v)
+      (all-append (Fits limits) (segmentLines v ++ partitionLines v ++ rightLines limits v) (flowLines limits v)
+      (all-append (Fits limits) (segmentLines v ++ partitionLines v) (rightLines limits v)
+      (all-append (Fits limits) (segmentLines v) (partitionLines v)
+      (all-below (Fits limits) (v .segments) (segmentAt v) (λ i l. (segment-fits limits t h i l, tt)))
+      (all-below (Fits limits) (v .partitions) (partitionAt v) (λ i l. (partition-fits limits t h i l, tt))))
+      (all-below (Fits limits) (limits .partitions) _ (λ p l. all-below (Fits limits) (limits .segments) (rightAt v p)
+      (λ s k. pair-cases (All (Fits limits)) _ _ (λ e. tt) (λ e. (right-fits limits t h p s l k e, tt))))))
+      (all-below (Fits limits) (limits .segments) _ (λ s l. all-below (Fits limits) (limits .segments) (flowAt v s)
+      (λ u k. pair-cases (All (Fits limits)) _ _ (λ e. tt) (λ e. (flow-fits limits t h s u l k e, tt))))))
+      (all-below (Fits limits) (v .slots) (slotAt v) (λ i l. (slot-fits limits t h i l, tt)))
+
+  pub record-printable : Roomy limits → All Printable (linesOfRecord limits t)
+  record-printable r = all-map (Fits limits) Printable (fits-printable limits r) (linesOfRecord limits t) record-fits

@@ -4,40 +4,54 @@ use mathlib.Core.Path.{_≡_, refl, sym, _∙_, ap}
 use mathlib.Core.Bool.{true, false≢true}
 use mathlib.Core.List.{[], _++_, append-nil}
 use native.Mathlib.Omega.{arith}
-use Rattle.policy.specs.Limits.{single}
-use Rattle.policy.specs.Record.{viewOf}
-use Rattle.policy.specs.Draft.{begun}
+use Rattle.policy.specs.Limits.{Limits}
+use Rattle.policy.specs.View.{View}
+use Rattle.policy.specs.Tables.{Tables, zeros, viewOf}
+use Rattle.policy.specs.Draft.{begun, noLine}
 use Rattle.policy.specs.Refusals.{isAccepted}
 use Rattle.policy.specs.Read.{wholeRefusal, readLines}
-use Rattle.policy.specs.declared.record.Policy.{Policy}
 use Rattle.policy.specs.declared.record.Key.{Key}
 use Rattle.policy.specs.declared.record.Refusal.{Refusal}
 use Rattle.policy.specs.declared.record.Refusal.the-variants.{Accepted, TooLong, Malformed, OutOfOrder, OutOfRange, Clash, Incomplete, CodeUnreadable, FlowMissing}
 use Rattle.printer.specs.Printer.{segmentAt, partitionAt, rightAt, flowAt, slotAt, segmentLines, partitionLines, rightLines, flowLines, slotLines, linesOfRecord}
 use Rattle.printer.proofs.Laws.Passed.{Passed}
-use Rattle.printer.proofs.Laws.Fits.{byte-cases}
+use Rattle.printer.proofs.Laws.Fits.{pair-cases}
 use Rattle.printer.proofs.Laws.Reaches.{draft, Reaches, reaches-none, reaches-one, reaches-append, reaches-below}
-use Rattle.printer.proofs.Laws.Order.{Upto, Below, below-first, below-later, below-own, segment-ordered, partition-ordered, right-ordered, flow-ordered, slot-ordered}
+use Rattle.printer.proofs.Laws.Order.{Upto, Below, below-first, below-later, below-row, below-own, segment-ordered, partition-ordered, right-ordered, flow-ordered, slot-ordered}
 use Rattle.printer.proofs.Laws.Stage.{
   atSegment,
+  segmentsIn,
   atPartition,
+  partitionsIn,
   atRight,
+  rightsIn,
   atFlow,
+  flowsIn,
   atSlot,
-  stage-first,
-  stage-last,
+  segments-none,
+  segments-all,
   add-segment,
+  segment-passes,
+  partitions-none,
+  partitions-all,
   add-partition,
+  partition-passes,
+  rights-none,
+  rights-row,
+  rights-all,
   add-right,
   keep-right,
+  right-passes,
+  flows-none,
+  flows-row,
+  flows-all,
   add-flow,
   keep-flow,
+  flow-passes,
+  slots-none,
+  slots-all,
   add-slot,
-  segment-allowed,
-  partition-allowed,
-  right-allowed,
-  flow-allowed,
-  slot-allowed,
+  slot-passes,
 }
 
 is-accepted : (refusal : Refusal) → isAccepted refusal ≡ true → refusal ≡ Accepted
@@ -51,76 +65,95 @@ is-accepted Incomplete h = absurd (false≢true h)
 is-accepted CodeUnreadable h = absurd (false≢true h)
 is-accepted FlowMissing h = absurd (false≢true h)
 
-module _ (p : Policy) (h : Passed p) where
-  segments-read : Reaches (atSegment p 0) (Upto 0) (segmentLines p) (atSegment p (p .segments)) (Upto 0)
+module _ (limits : Limits) (t : Tables) (h : Passed limits t) where
+  abbrev v : View
+  v = viewOf t
+
+  segments-read : Reaches limits (zeros limits) (Upto 0) (segmentLines v) (segmentsIn limits t) (Upto 0)
   segments-read =
-      reaches-below (atSegment p) (λ i. Upto 0) (segmentAt p) (p .segments)
+      reaches-below limits _ _ _ _ (atSegment limits t) (λ i. Upto 0) (segmentAt v) (v .segments)
+      (segments-none limits t h) (λ key c. c)
       (λ i l.
-      reaches-one _ _ _ _ _ refl
-      (λ key c. segment-ordered key (viewOf (atSegment p i)) _ _ c)
-      (segment-allowed p h i l) (add-segment p h i l) (omega arith))
+      reaches-one limits _ _ _ _ _ refl
+      (λ key c. segment-ordered key (viewOf (atSegment limits t i)) _ _ c)
+      (segment-passes limits t h i l) (add-segment limits t h i l) (omega arith))
+      (segments-all limits t h) (λ key c. c)
 
-  partitions-read : Reaches (atPartition p 0) (Upto 1) (partitionLines p) (atPartition p (p .partitions)) (Upto 1)
+  partitions-read : Reaches limits (segmentsIn limits t) (Upto 0) (partitionLines v) (partitionsIn limits t) (Upto 1)
   partitions-read =
-      reaches-below (atPartition p) (λ i. Upto 1) (partitionAt p) (p .partitions)
+      reaches-below limits _ _ _ _ (atPartition limits t) (λ i. Upto 1) (partitionAt v) (v .partitions)
+      (partitions-none limits t h) (λ key c. omega arith)
       (λ i l.
-      reaches-one _ _ _ _ _ refl
-      (λ key c. partition-ordered key (viewOf (atPartition p i)) _ _ c)
-      (partition-allowed p h i l) (add-partition p h i l) (omega arith))
+      reaches-one limits _ _ _ _ _ refl
+      (λ key c. partition-ordered key (viewOf (atPartition limits t i)) _ _ c)
+      (partition-passes limits t h i l) (add-partition limits t h i l) (omega arith))
+      (partitions-all limits t h) (λ key c. c)
 
-  rights-read : Reaches (atRight p 0) (Below 2 0) (rightLines p) (atRight p 256) (Below 2 256)
+  rights-read : Reaches limits (partitionsIn limits t) (Upto 1) (rightLines limits v) (rightsIn limits t) (Upto 2)
   rights-read =
-      reaches-below (atRight p) (Below 2) (rightAt p) 256
-      (λ k l.
-      byte-cases (λ xs. Reaches (atRight p k) (Below 2 k) xs (atRight p (suc k)) (Below 2 (suc k))) _ _
-      (λ e. reaches-none _ _ _ _ (keep-right p h k l e) (below-later 2 k))
-      (λ ne.
-      reaches-one _ _ _ _ _ refl
-      (λ key c. right-ordered key (viewOf (atRight p k)) k _ c)
-      (right-allowed p h k l ne) (add-right p h k l) (below-own 2 k)))
+      reaches-below limits _ _ _ _ (λ p. atRight limits t p 0) (λ p. Below 2 p 0) _ (limits .partitions)
+      (rights-none limits t h) (below-first 1)
+      (λ p l.
+      reaches-below limits _ _ _ _ (atRight limits t p) (Below 2 p) (rightAt v p) (limits .segments)
+      refl (λ key c. c)
+      (λ s k.
+      pair-cases (λ xs. Reaches limits (atRight limits t p s) (Below 2 p s) xs (atRight limits t p (suc s)) (Below 2 p (suc s))) _ _
+      (λ e. reaches-none limits _ _ _ _ (keep-right limits t h p s l e) (below-later 2 p s))
+      (λ e.
+      reaches-one limits _ _ _ _ _ refl
+      (λ key c. right-ordered key (viewOf (atRight limits t p s)) p s _ c)
+      (right-passes limits t h p s l k e) (add-right limits t h p s l) (below-own 2 p s)))
+      (rights-row limits t h p) (below-row 2 p (limits .segments)))
+      (rights-all limits t h) (λ key c. c .kinds)
 
-  flows-read : Reaches (atFlow p 0) (Below 3 0) (flowLines p) (atFlow p 1024) (Below 3 1024)
+  flows-read : Reaches limits (rightsIn limits t) (Upto 2) (flowLines limits v) (flowsIn limits t) (Upto 3)
   flows-read =
-      reaches-below (atFlow p) (Below 3) (flowAt p) 1024
-      (λ k l.
-      byte-cases (λ xs. Reaches (atFlow p k) (Below 3 k) xs (atFlow p (suc k)) (Below 3 (suc k))) _ _
-      (λ e. reaches-none _ _ _ _ (keep-flow p h k l e) (below-later 3 k))
-      (λ ne.
-      reaches-one _ _ _ _ _ refl
-      (λ key c. flow-ordered key (viewOf (atFlow p k)) k c)
-      (flow-allowed p h k l ne) (add-flow p h k l (h .one k l ne)) (below-own 3 k)))
+      reaches-below limits _ _ _ _ (λ s. atFlow limits t s 0) (λ s. Below 3 s 0) _ (limits .segments)
+      (flows-none limits t h) (below-first 2)
+      (λ s l.
+      reaches-below limits _ _ _ _ (atFlow limits t s) (Below 3 s) (flowAt v s) (limits .segments)
+      refl (λ key c. c)
+      (λ u k.
+      pair-cases (λ xs. Reaches limits (atFlow limits t s u) (Below 3 s u) xs (atFlow limits t s (suc u)) (Below 3 s (suc u))) _ _
+      (λ e. reaches-none limits _ _ _ _ (keep-flow limits t h s u k e) (below-later 3 s u))
+      (λ e.
+      reaches-one limits _ _ _ _ _ refl
+      (λ key c. flow-ordered key (viewOf (atFlow limits t s u)) s u c)
+      (flow-passes limits t h s u l k e) (add-flow limits t h s u k e) (below-own 3 s u)))
+      (flows-row limits t h s) (below-row 3 s (limits .segments)))
+      (flows-all limits t h) (λ key c. c .kinds)
 
-  slots-read : Reaches (atSlot p 0) (Upto 4) (slotLines p) (atSlot p (p .slots)) (Upto 4)
+  slots-read : Reaches limits (flowsIn limits t) (Upto 3) (slotLines v) t (Upto 4)
   slots-read =
-      reaches-below (atSlot p) (λ i. Upto 4) (slotAt p) (p .slots)
+      reaches-below limits _ _ _ _ (atSlot limits t) (λ i. Upto 4) (slotAt v) (v .slots)
+      (slots-none limits t h) (λ key c. omega arith)
       (λ i l.
-      reaches-one _ _ _ _ _ refl
-      (λ key c. slot-ordered key (viewOf (atSlot p i)) _ _ c)
-      (slot-allowed p h i l) (add-slot p h i l) (omega arith))
+      reaches-one limits _ _ _ _ _ refl
+      (λ key c. slot-ordered key (viewOf (atSlot limits t i)) _ _ c)
+      (slot-passes limits t h i l) (add-slot limits t h i l) (omega arith))
+      (slots-all limits t h) (λ key c. c)
 
-  record-read : Reaches (atSegment p 0) (Upto 0) (linesOfRecord p) (atSlot p (p .slots)) (Upto 4)
+  record-read : Reaches limits (zeros limits) (Upto 0) (linesOfRecord limits t) t (Upto 4)
   unfolding linesOfRecord
   record-read =
-      reaches-append _ (atFlow p 1024) _ _ (Below 3 1024) _ _
-      (segmentLines p ++ partitionLines p ++ rightLines p ++ flowLines p) (slotLines p)
-      (reaches-append _ (atRight p 256) _ _ (Below 2 256) (Below 3 0) _
-      (segmentLines p ++ partitionLines p ++ rightLines p) (flowLines p)
-      (reaches-append _ (atPartition p (p .partitions)) _ _ (Upto 1) (Below 2 0) _
-      (segmentLines p ++ partitionLines p) (rightLines p)
-      (reaches-append _ (atSegment p (p .segments)) _ _ (Upto 0) (Upto 1) _
-      (segmentLines p) (partitionLines p)
-      segments-read (λ key c. omega arith) partitions-read)
-      (below-first 1) rights-read)
-      (λ key c. below-first 2 key (c .kinds)) flows-read)
-      (λ key c. omega arith) slots-read
+      reaches-append limits _ (flowsIn limits t) _ _ (Upto 3) _
+      (segmentLines v ++ partitionLines v ++ rightLines limits v ++ flowLines limits v) (slotLines v)
+      (reaches-append limits _ (rightsIn limits t) _ _ (Upto 2) _
+      (segmentLines v ++ partitionLines v ++ rightLines limits v) (flowLines limits v)
+      (reaches-append limits _ (partitionsIn limits t) _ _ (Upto 1) _
+      (segmentLines v ++ partitionLines v) (rightLines limits v)
+      (reaches-append limits _ (segmentsIn limits t) _ _ (Upto 0) _ (segmentLines v) (partitionLines v)
+      segments-read partitions-read)
+      rights-read)
+      flows-read)
+      slots-read
 
   -- After the last line the record is whole, and passes 6, 7 and 8.
-  end-read : (n : ℕ) (key : Key) → readLines single n (draft p key) [] ≡ record { refusal = Accepted; policy = p }
+  end-read : (n : ℕ) (key : Key) → readLines limits n (draft t key) [] ≡ record { refusal = Accepted; tables = t }
   unfolding readLines
-  end-read n key = rw (is-accepted (wholeRefusal (viewOf p)) (h .whole))
+  end-read n key = rw (is-accepted (wholeRefusal v) (h .whole))
 
-  pub lines-read : readLines single 1 begun (linesOfRecord p) ≡ record { refusal = Accepted; policy = p }
+  pub lines-read : readLines limits 1 (begun limits) (linesOfRecord limits t) ≡ record { refusal = Accepted; tables = t }
   lines-read =
-      ap (readLines single 1 begun) (sym (append-nil (linesOfRecord p)))
-      ∙ ap (λ (q : Policy). readLines single 1 (draft q (begun .before)) (linesOfRecord p ++ [])) (stage-first p h)
-      ∙ record-read [] _ (λ n key c. rw (stage-last p h) (end-read n key)) 1 (begun .before) (omega arith)
+      ap (readLines limits 1 (begun limits)) (sym (append-nil (linesOfRecord limits t)))
+      ∙ record-read [] _ (λ n key c. end-read n key) 1 noLine (omega arith)

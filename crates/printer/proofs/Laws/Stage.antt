@@ -1,179 +1,236 @@
--- The record while its lines are read: so many entries of each array are in. A rule reads only entries that are in already, so
--- it lets a line pass there as it does in the whole record.
-use Prim.Native.Nat.{ℕ, suc, _<_, _/_, _%_}
-use mathlib.Core.Path.{_≡_, _∙_, ap}
-use mathlib.Core.List.{List}
-use native.Mathlib.Nat.{div-add-mod}
+-- The record while its lines are read: the parts of the kinds that are read are whole, of the one being read so many entries or bits
+-- are in, and the others are zeros. A rule reads only entries that are in already, so it lets a line pass there as it does in the
+-- whole record.
+use Prim.Native.Nat.{ℕ, suc, _+_, _<_}
+use mathlib.Core.Path.{_≡_, refl, sym, _∙_}
+use mathlib.Core.Bool.{Bool, true, false, cond, _||_}
 use native.Mathlib.Numerals.{add-one}
 use native.Mathlib.Omega.{arith}
-use lib.ListN.{getD}
-use lib.Dec.{eqb}
 use Rattle.text.specs.declared.line.Line.the-variants.{Segment, Partition, Right, Flow, Slot}
-use Rattle.policy.specs.Below.{someBelow}
+use Rattle.policy.specs.Limits.{Limits}
+use Rattle.policy.specs.Modes.{givesRead, givesWrite, modeIn}
+use Rattle.policy.specs.View.{View}
 use Rattle.policy.specs.Range.{outOfRange}
-use Rattle.policy.specs.Clash.{shares, clashes}
-use Rattle.policy.specs.Record.{zeros, viewOf}
-use Rattle.policy.specs.Draft.{added}
-use Rattle.policy.specs.declared.record.Policy.{Policy}
-use Rattle.policy.proofs.Laws.Below.{some-same}
-use Rattle.printer.proofs.Laws.Passed.{Allowed, Passed}
-use Rattle.printer.proofs.Laws.Upto.{upto, upto-none, upto-set, upto-keep, upto-at, upto-full, upto-all}
+use Rattle.policy.specs.Clash.{clashes}
+use Rattle.policy.specs.Tables.{Segments, Partitions, Slots, Rights, Flows, Tables, zeros, viewOf}
+use Rattle.policy.specs.Draft.{withSegments, withPartitions, withRights, withFlows, withSlots, added}
+use Rattle.policy.specs.Sound.{passes}
+use Rattle.policy.proofs.Laws.Bools.{or-left, or-right}
+use Rattle.policy.proofs.Laws.Same.{segment-same, partition-same, slot-same}
+use Rattle.printer.proofs.Laws.Passed.{Passed}
+use Rattle.printer.proofs.Laws.Upto.{upto, upto-none, upto-set, upto-at, upto-full}
+use Rattle.printer.proofs.Laws.Lows.{lows}
+use Rattle.printer.proofs.Laws.Widths.{rightWidth, right-none, right-row, right-all, right-more, flowWidth, flow-none, flow-row, flow-all, flow-more}
 
-abbrev pub stage : Policy → ℕ → ℕ → ℕ → ℕ → ℕ → Policy
-stage p segments partitions rights flows slots =
-    record {
-      segments = segments;
-      partitions = partitions;
-      slots = slots;
-      base = upto (p .base) segments;
-      size = upto (p .size) segments;
-      code = upto (p .code) partitions;
-      save = upto (p .save) partitions;
-      owner = upto (p .owner) slots;
-      ticks = upto (p .ticks) slots;
-      rights = upto (p .rights) rights;
-      flows = upto (p .flows) flows;
-    }
+-- The first entries of a part.
+abbrev segmentsUpto : Segments → ℕ → Segments
+segmentsUpto a i = record { count = i; base = upto (a .base) i; size = upto (a .size) i }
 
--- The stages of each kind, by the lines of it that are in, or the places that are passed.
-abbrev pub atSegment : Policy → ℕ → Policy
-atSegment p i = stage p i 0 0 0 0
+abbrev partitionsUpto : Partitions → ℕ → Partitions
+partitionsUpto a i = record { count = i; code = upto (a .code) i; save = upto (a .save) i }
 
-abbrev pub atPartition : Policy → ℕ → Policy
-atPartition p i = stage p (p .segments) i 0 0 0
+abbrev slotsUpto : Slots → ℕ → Slots
+slotsUpto a i = record { count = i; owner = upto (a .owner) i; ticks = upto (a .ticks) i }
 
-abbrev pub atRight : Policy → ℕ → Policy
-atRight p k = stage p (p .segments) (p .partitions) k 0 0
+abbrev rightsUpto : ℕ → Rights → ℕ → ℕ → Rights
+rightsUpto n a p s = record { reads = lows (rightWidth n p s) (a .reads); writes = lows (rightWidth n p s) (a .writes) }
 
-abbrev pub atFlow : Policy → ℕ → Policy
-atFlow p k = stage p (p .segments) (p .partitions) 256 k 0
+abbrev flowsUpto : Flows → ℕ → ℕ → Flows
+flowsUpto a s u = record { sources = lows (flowWidth s u) (a .sources) }
 
-abbrev pub atSlot : Policy → ℕ → Policy
-atSlot p i = stage p (p .segments) (p .partitions) 256 1024 i
+-- The stages of each kind, by the lines of it that are in, or the pairs that are passed; and after its last line.
+abbrev pub atSegment : Limits → Tables → ℕ → Tables
+atSegment limits t i = withSegments (zeros limits) (segmentsUpto (t .segments) i)
 
-module _ (p : Policy) (h : Passed p) where
-  pub stage-first : zeros ≡ atSegment p 0
-  stage-first =
-      let s = h .shape in
+abbrev pub segmentsIn : Limits → Tables → Tables
+segmentsIn limits t = withSegments (zeros limits) (t .segments)
+
+abbrev pub atPartition : Limits → Tables → ℕ → Tables
+atPartition limits t i = withPartitions (segmentsIn limits t) (partitionsUpto (t .partitions) i)
+
+abbrev pub partitionsIn : Limits → Tables → Tables
+partitionsIn limits t = withPartitions (segmentsIn limits t) (t .partitions)
+
+abbrev pub atRight : Limits → Tables → ℕ → ℕ → Tables
+atRight limits t p s = withRights (partitionsIn limits t) (rightsUpto (limits .segments) (t .rights) p s)
+
+abbrev pub rightsIn : Limits → Tables → Tables
+rightsIn limits t = withRights (partitionsIn limits t) (t .rights)
+
+abbrev pub atFlow : Limits → Tables → ℕ → ℕ → Tables
+atFlow limits t s u = withFlows (rightsIn limits t) (flowsUpto (t .flows) s u)
+
+abbrev pub flowsIn : Limits → Tables → Tables
+flowsIn limits t = withFlows (rightsIn limits t) (t .flows)
+
+abbrev pub atSlot : Limits → Tables → ℕ → Tables
+atSlot limits t i = withSlots (flowsIn limits t) (slotsUpto (t .slots) i)
+
+-- A line gives what its letters say.
+read-given : (r w : Bool) → givesRead (cond r 1 0 + cond w 2 0) ≡ r
+read-given true true = refl
+read-given true false = refl
+read-given false true = refl
+read-given false false = refl
+
+write-given : (r w : Bool) → givesWrite (cond r 1 0 + cond w 2 0) ≡ w
+write-given true true = refl
+write-given true false = refl
+write-given false true = refl
+write-given false false = refl
+
+module _ (limits : Limits) (t : Tables) (h : Passed limits t) where
+  abbrev v : View
+  v = viewOf t
+
+  pub segments-none : zeros limits ≡ atSegment limits t 0
+  segments-none = rw (upto-none (t .segments .base) _ (h .shape .base), upto-none (t .segments .size) _ (h .shape .size))
+
+  pub segments-all : atSegment limits t (v .segments) ≡ segmentsIn limits t
+  segments-all =
       rw (
-        upto-none (p .base) 32 (s .base),
-        upto-none (p .size) 32 (s .size),
-        upto-none (p .code) 8 (s .code),
-        upto-none (p .save) 8 (s .save),
-        upto-none (p .owner) 32 (s .owner),
-        upto-none (p .ticks) 32 (s .ticks),
-        upto-none (p .rights) 256 (s .rights),
-        upto-none (p .flows) 1024 (s .flows),
+        upto-full (t .segments .base) (v .segments) (h .unused .base),
+        upto-full (t .segments .size) (v .segments) (h .unused .size),
       )
 
-  pub stage-last : atSlot p (p .slots) ≡ p
-  stage-last =
-      let s = h .shape in
-      let u = h .unused in
+  pub partitions-none : segmentsIn limits t ≡ atPartition limits t 0
+  partitions-none =
+      rw (upto-none (t .partitions .code) _ (h .shape .code), upto-none (t .partitions .save) _ (h .shape .save))
+
+  pub partitions-all : atPartition limits t (v .partitions) ≡ partitionsIn limits t
+  partitions-all =
       rw (
-        upto-full (p .base) (p .segments) (u .base),
-        upto-full (p .size) (p .segments) (u .size),
-        upto-full (p .code) (p .partitions) (u .code),
-        upto-full (p .save) (p .partitions) (u .save),
-        upto-full (p .owner) (p .slots) (u .owner),
-        upto-full (p .ticks) (p .slots) (u .ticks),
-        upto-all (p .rights) 256 (s .rights),
-        upto-all (p .flows) 1024 (s .flows),
+        upto-full (t .partitions .code) (v .partitions) (h .unused .code),
+        upto-full (t .partitions .save) (v .partitions) (h .unused .save),
       )
 
-  -- What a line adds leads to the next stage, and so does a place without a line.
-  pub add-segment : (i : ℕ) → i < p .segments →
-      added (atSegment p i) (Segment i (getD (p .base) i 0) (getD (p .size) i 0)) ≡ atSegment p (suc i)
+  pub slots-none : flowsIn limits t ≡ atSlot limits t 0
+  slots-none = rw (upto-none (t .slots .owner) _ (h .shape .owner), upto-none (t .slots .ticks) _ (h .shape .ticks))
+
+  pub slots-all : atSlot limits t (v .slots) ≡ t
+  slots-all =
+      rw (
+        upto-full (t .slots .owner) (v .slots) (h .unused .owner),
+        upto-full (t .slots .ticks) (v .slots) (h .unused .ticks),
+        h .unused .byte,
+      )
+
+  -- What a line adds leads to the next stage, and so does a pair without a line.
+  pub add-segment : (i : ℕ) → i < v .segments →
+      added (atSegment limits t i) (Segment i (v .base i) (v .size i)) ≡ atSegment limits t (suc i)
   unfolding added
   add-segment i l =
       let s = h .shape in
       let few = h .few-segments in
-      rw (add-one i, upto-set (p .base) i (omega arith), upto-set (p .size) i (omega arith))
+      rw (add-one i, upto-set (t .segments .base) i (omega arith), upto-set (t .segments .size) i (omega arith))
 
-  pub add-partition : (i : ℕ) → i < p .partitions →
-      added (atPartition p i) (Partition i (getD (p .code) i 0) (getD (p .save) i 0)) ≡ atPartition p (suc i)
+  pub add-partition : (i : ℕ) → i < v .partitions →
+      added (atPartition limits t i) (Partition i (v .code i) (v .save i)) ≡ atPartition limits t (suc i)
   unfolding added
   add-partition i l =
       let s = h .shape in
       let few = h .few-partitions in
-      rw (add-one i, upto-set (p .code) i (omega arith), upto-set (p .save) i (omega arith))
+      rw (add-one i, upto-set (t .partitions .code) i (omega arith), upto-set (t .partitions .save) i (omega arith))
 
-  pub add-right : (k : ℕ) → k < 256 →
-      added (atRight p k) (Right (k / 32) (k % 32) (getD (p .rights) k 0)) ≡ atRight p (suc k)
-  unfolding added
-  add-right k l = let s = h .shape in rw (div-add-mod k 32, upto-set (p .rights) k (omega arith))
-
-  pub keep-right : (k : ℕ) → k < 256 → getD (p .rights) k 0 ≡ 0 → atRight p k ≡ atRight p (suc k)
-  keep-right k l e = let s = h .shape in rw (upto-keep (p .rights) k (omega arith) e)
-
-  pub add-flow : (k : ℕ) → k < 1024 → getD (p .flows) k 0 ≡ 1 →
-      added (atFlow p k) (Flow (k / 32) (k % 32)) ≡ atFlow p (suc k)
-  unfolding added
-  add-flow k l e = let s = h .shape in rw (div-add-mod k 32, ← e, upto-set (p .flows) k (omega arith))
-
-  pub keep-flow : (k : ℕ) → k < 1024 → getD (p .flows) k 0 ≡ 0 → atFlow p k ≡ atFlow p (suc k)
-  keep-flow k l e = let s = h .shape in rw (upto-keep (p .flows) k (omega arith) e)
-
-  pub add-slot : (i : ℕ) → i < p .slots →
-      added (atSlot p i) (Slot (getD (p .owner) i 0) (getD (p .ticks) i 0)) ≡ atSlot p (suc i)
+  pub add-slot : (i : ℕ) → i < v .slots → added (atSlot limits t i) (Slot (v .owner i) (v .ticks i)) ≡ atSlot limits t (suc i)
   unfolding added
   add-slot i l =
       let s = h .shape in
       let few = h .few-slots in
-      rw (add-one i, upto-set (p .owner) i (omega arith), upto-set (p .ticks) i (omega arith))
+      rw (add-one i, upto-set (t .slots .owner) i (omega arith), upto-set (t .slots .ticks) i (omega arith))
 
   -- A line that passes in the whole record, after those before it, passes at its stage.
-  pub segment-allowed : (i : ℕ) → i < p .segments →
-      Allowed (viewOf (atSegment p i)) (Segment i (getD (p .base) i 0) (getD (p .size) i 0))
-  unfolding outOfRange clashes
-  segment-allowed i l =
+  pub segment-passes : (i : ℕ) → i < v .segments →
+      passes limits (viewOf (atSegment limits t i)) (Segment i (v .base i) (v .size i)) ≡ true
+  segment-passes i l =
       let s = h .shape in
       let few = h .few-segments in
-      let a = h .segment i l in
-      record {
-        in-range = a .in-range;
-        no-clash =
-            some-same _ _ i
-            (λ t b. rw (upto-at (p .base) i t (omega arith) b, upto-at (p .size) i t (omega arith) b))
-            ∙ a .no-clash;
-      }
+      sym (segment-same limits v (viewOf (atSegment limits t i)) i _ _ refl refl refl
+      (λ j b. sym (upto-at (t .segments .base) i j (omega arith) b))
+      (λ j b. sym (upto-at (t .segments .size) i j (omega arith) b)))
+      ∙ h .segment i l
 
-  pub partition-allowed : (i : ℕ) → i < p .partitions →
-      Allowed (viewOf (atPartition p i)) (Partition i (getD (p .code) i 0) (getD (p .save) i 0))
-  unfolding outOfRange clashes
-  partition-allowed i l =
+  pub partition-passes : (i : ℕ) → i < v .partitions →
+      passes limits (viewOf (atPartition limits t i)) (Partition i (v .code i) (v .save i)) ≡ true
+  partition-passes i l =
       let s = h .shape in
       let few = h .few-partitions in
-      let a = h .partition i l in
-      let code = getD (p .code) i 0 in
-      let save = getD (p .save) i 0 in
-      let others : someBelow i (shares (viewOf (atPartition p i)) code save) ≡ someBelow i (shares (viewOf p) code save) =
-      some-same _ _ i
-      (λ t b. rw (upto-at (p .code) i t (omega arith) b, upto-at (p .save) i t (omega arith) b)) in
-      record {
-        in-range = a .in-range;
-        no-clash = rw (upto-full (p .size) (p .segments) (h .unused .size), others) (a .no-clash);
-      }
+      sym (partition-same limits v (viewOf (atPartition limits t i)) i _ _ refl refl refl refl refl
+      (λ j b. sym (upto-at (t .partitions .code) i j (omega arith) b))
+      (λ j b. sym (upto-at (t .partitions .save) i j (omega arith) b)))
+      ∙ h .partition i l
 
-  pub right-allowed : (k : ℕ) → k < 256 → (getD (p .rights) k 0 ≡ 0 → ⊥) →
-      Allowed (viewOf (atRight p k)) (Right (k / 32) (k % 32) (getD (p .rights) k 0))
-  unfolding outOfRange clashes
-  right-allowed k l ne =
-      let a = h .right k l ne in
-      record {
-        in-range = a .in-range;
-        no-clash =
-            ap (λ (saves : List ℕ). someBelow (p .partitions) (λ q. eqb (k % 32) (getD saves q 0)))
-            (upto-full (p .save) (p .partitions) (h .unused .save))
-            ∙ a .no-clash;
-      }
+  pub slot-passes : (i : ℕ) → i < v .slots →
+      passes limits (viewOf (atSlot limits t i)) (Slot (v .owner i) (v .ticks i)) ≡ true
+  slot-passes i l = sym (slot-same limits v (viewOf (atSlot limits t i)) i _ _ refl refl refl refl) ∙ h .slot i l
 
-  pub flow-allowed : (k : ℕ) → k < 1024 → (getD (p .flows) k 0 ≡ 0 → ⊥) →
-      Allowed (viewOf (atFlow p k)) (Flow (k / 32) (k % 32))
+  pub right-passes : (p s : ℕ) → p < limits .partitions → s < limits .segments → v .reads p s || v .writes p s ≡ true →
+      passes limits (viewOf (atRight limits t p s)) (Right p s (modeIn v p s)) ≡ true
   unfolding outOfRange clashes
-  flow-allowed k l ne = let a = h .flow k l ne in record { in-range = a .in-range; no-clash = a .no-clash }
+  right-passes p s l k e = h .right p s l k e
 
-  pub slot-allowed : (i : ℕ) → i < p .slots →
-      Allowed (viewOf (atSlot p i)) (Slot (getD (p .owner) i 0) (getD (p .ticks) i 0))
+  pub flow-passes : (s u : ℕ) → s < limits .segments → u < limits .segments → v .flow s u ≡ true →
+      passes limits (viewOf (atFlow limits t s u)) (Flow s u) ≡ true
   unfolding outOfRange clashes
-  slot-allowed i l = let a = h .slot i l in record { in-range = a .in-range; no-clash = a .no-clash }
+  flow-passes s u l k e = h .flow s u l k e
+
+  pub rights-none : partitionsIn limits t ≡ atRight limits t 0 0
+  rights-none =
+      rw (
+        right-none (limits .segments) (limits .partitions) (t .rights .reads) (h .shape .reads),
+        right-none (limits .segments) (limits .partitions) (t .rights .writes) (h .shape .writes),
+      )
+
+  pub rights-row : (p : ℕ) → atRight limits t p (limits .segments) ≡ atRight limits t (suc p) 0
+  rights-row p =
+      rw (
+        right-row (limits .segments) (limits .partitions) (t .rights .reads) (h .shape .reads) p,
+        right-row (limits .segments) (limits .partitions) (t .rights .writes) (h .shape .writes) p,
+      )
+
+  pub rights-all : atRight limits t (limits .partitions) 0 ≡ rightsIn limits t
+  rights-all =
+      rw (
+        right-all (limits .segments) (limits .partitions) (t .rights .reads) (h .shape .reads) (h .masks .reads),
+        right-all (limits .segments) (limits .partitions) (t .rights .writes) (h .shape .writes) (h .masks .writes),
+      )
+
+  pub add-right : (p s : ℕ) → p < limits .partitions →
+      added (atRight limits t p s) (Right p s (modeIn v p s)) ≡ atRight limits t p (suc s)
+  unfolding added
+  add-right p s l =
+      rw (
+        read-given (v .reads p s) (v .writes p s),
+        write-given (v .reads p s) (v .writes p s),
+        right-more (limits .segments) (limits .partitions) (t .rights .reads) (h .shape .reads) p s l,
+        right-more (limits .segments) (limits .partitions) (t .rights .writes) (h .shape .writes) p s l,
+      )
+
+  pub keep-right : (p s : ℕ) → p < limits .partitions → v .reads p s || v .writes p s ≡ false →
+      atRight limits t p s ≡ atRight limits t p (suc s)
+  keep-right p s l e =
+      let r = right-more (limits .segments) (limits .partitions) (t .rights .reads) (h .shape .reads) p s l in
+      let q = right-more (limits .segments) (limits .partitions) (t .rights .writes) (h .shape .writes) p s l in
+      rw (
+        rw (or-left (v .reads p s) (v .writes p s) e) at r,
+        rw (or-right (v .reads p s) (v .writes p s) e) at q,
+      )
+
+  pub flows-none : rightsIn limits t ≡ atFlow limits t 0 0
+  flows-none = rw (flow-none (limits .segments) (t .flows .sources) (h .shape .sources))
+
+  pub flows-row : (s : ℕ) → atFlow limits t s (limits .segments) ≡ atFlow limits t (suc s) 0
+  flows-row s = rw (flow-row (limits .segments) (t .flows .sources) (h .shape .sources) s)
+
+  pub flows-all : atFlow limits t (limits .segments) 0 ≡ flowsIn limits t
+  flows-all = rw (flow-all (limits .segments) (t .flows .sources) (h .shape .sources) (h .masks .sources))
+
+  pub add-flow : (s u : ℕ) → u < limits .segments → v .flow s u ≡ true →
+      added (atFlow limits t s u) (Flow s u) ≡ atFlow limits t s (suc u)
+  unfolding added
+  add-flow s u l e =
+      let r = flow-more (limits .segments) (t .flows .sources) (h .shape .sources) s u l in rw (rw e at r)
+
+  pub keep-flow : (s u : ℕ) → u < limits .segments → v .flow s u ≡ false → atFlow limits t s u ≡ atFlow limits t s (suc u)
+  keep-flow s u l e =
+      let r = flow-more (limits .segments) (t .flows .sources) (h .shape .sources) s u l in rw (rw e at r)

@@ -1,12 +1,12 @@
 -- An array filled place by place from zeros: its first entries, then zeros.
-use Prim.Native.Nat.{ℕ, suc, _+_, _-_, _≤_, _<_}
+use Prim.Native.Nat.{ℕ, suc, _-_, _≤_, _<_}
 use mathlib.Core.Path.{_≡_, refl, sym, _∙_, ap}
 use mathlib.Core.Bool.{true}
 use mathlib.Core.List.{List, [], _∷_, _++_}
 use native.Mathlib.Nat.{sub-zero}
 use native.Mathlib.Omega.{arith}
 use borrow.Author.Tests.{eqb-true}
-use lib.ListN.{length, getD, take, drop, set, replicate, take-append-drop, length-drop, drop-of-length-le, List·getD-append}
+use lib.ListN.{length, getD, take, drop, set, replicate, take-append-drop, length-drop, List·getD-append}
 use lib.Seq.{set-at, append-snoc, take-suc, length-take-le, getD-take}
 use lib.Dec.{eqb}
 use Rattle.policy.specs.Sound.{allZero}
@@ -38,10 +38,6 @@ module _ (xs : List ℕ) (i : ℕ) (l : i < length xs) where
       ∙ set-at (take i xs) 0 later (getD xs i 0) i (length-take-le i xs (omega arith))
       ∙ next-entry
 
-  -- The next entry is 0 already.
-  pub upto-keep : getD xs i 0 ≡ 0 → upto xs i ≡ upto xs (suc i)
-  upto-keep e = next-zero ∙ ap (λ (n : ℕ). take i xs ++ n ∷ later) (sym e) ∙ next-entry
-
 pub upto-at : (xs : List ℕ) (n i : ℕ) → n ≤ length xs → i < n → getD (upto xs n) i 0 ≡ getD xs i 0
 unfolding upto
 upto-at xs n i h l =
@@ -60,7 +56,3 @@ unfolding upto
 upto-full xs n h =
     ap (take n xs ++_) (ap (λ (m : ℕ). replicate m 0) (sym (length-drop n xs)) ∙ zeros-same (drop n xs) h)
     ∙ take-append-drop n xs
-
-pub upto-all : (xs : List ℕ) (n : ℕ) → length xs ≡ n → upto xs n ≡ xs
-unfolding allZero
-upto-all xs n e = upto-full xs n (ap allZero (drop-of-length-le xs {i = n} (omega arith)))

@@ -14,14 +14,11 @@ use Rattle.text.specs.Number.{number}
 use Rattle.text.specs.Places.{pieceAt, endAt}
 use Rattle.text.specs.declared.line.Line.{Line}
 use Rattle.text.specs.declared.line.Line.the-variants.{Bad}
-use Rattle.text.proofs.Laws.Letters.{Lettered, line-lettered}
-use Rattle.policy.specs.declared.record.Policy.{Policy}
 use Rattle.policy.specs.declared.record.Key.{Key}
-use Rattle.policy.specs.declared.record.Draft.{Draft}
 use Rattle.policy.specs.Limits.{single}
 use Rattle.policy.specs.Order.{keyOf}
-use Rattle.policy.specs.Record.{zeros, viewOf}
-use Rattle.policy.specs.Draft.{added, begun}
+use Rattle.policy.specs.Tables.{Tables, zeros, viewOf}
+use Rattle.policy.specs.Draft.{Draft, added, begun, noLine}
 use Rattle.policy.specs.Refusals.{isAccepted}
 use Rattle.policy.specs.Read.{lineRefusal, wholeRefusal, answer, readLines}
 use Rattle.policy.proofs.Kept.{Kept, kept-none}
@@ -31,43 +28,34 @@ use Rattle.text.proofs.Laws.Cut.{end-least}
 use Rattle.text.proofs.Laws.Line.{line-left}
 use Rattle.reader.proofs.Laws.Lines.{linesFrom, lines-all, line-next, lines-end}
 
-abbrev draft : Policy → Key → Draft
-draft policy before = record { policy = policy; before = before }
+abbrev draft : Tables → Key → Draft
+draft tables before = record { tables = tables; before = before }
 
-pub record Reached (text : List ℕ) (policy : Policy) (before : Key) (at n : ℕ) : Type 0 where
-  pub same : readLines single 1 begun (linesOf text) ≡ readLines single n (draft policy before) (linesFrom text at)
+pub record Reached (text : List ℕ) (tables : Tables) (before : Key) (at n : ℕ) : Type 0 where
+  pub same : readLines single 1 (begun single) (linesOf text) ≡ readLines single n (draft tables before) (linesFrom text at)
   pub within : at ≤ length text
   pub counted : n ≤ at + 1
-  pub kept : Kept policy (before .kind)
+  pub kept : Kept single tables (before .kind)
 
-pub reached-first : (text : List ℕ) → Reached text zeros (record { kind = 0; first = 0; second = 0 }) 0 1
-reached-first text = record { same = rw (lines-all text); within = omega arith; counted = omega arith; kept = kept-none }
+pub reached-first : (text : List ℕ) → Reached text (zeros single) noLine 0 1
+reached-first text = record { same = rw (lines-all text); within = omega arith; counted = omega arith; kept = kept-none single }
 
-module _ (text : List ℕ) (policy : Policy) (before : Key) (at n : ℕ) (r : Reached text policy before at n) where
+module _ (text : List ℕ) (tables : Tables) (before : Key) (at n : ℕ) (r : Reached text tables before at n) where
   abbrev line : Line
   line = lineAt text at
 
-  -- a line of the text has a mode of at most 3
-  pub at-lettered : Lettered line
-  unfolding lineAt
-  at-lettered = go (ltb (endAt lineEnd text at) (length text))
-    where
-      go : (t : Bool) → Lettered (cond t (lineOf (fieldsOf (pieceAt lineEnd text at))) Bad)
-      go true = line-lettered number (fieldsOf (pieceAt lineEnd text at))
-      go false = tt
-
-  pub stops-refused : at < length text → isAccepted (lineRefusal single n (draft policy before) line) ≡ false →
-      answer (lineRefusal single n (draft policy before) line) zeros ≡ readLines single 1 begun (linesOf text)
+  pub stops-refused : at < length text → isAccepted (lineRefusal single n before (viewOf tables) line) ≡ false →
+      answer single (lineRefusal single n before (viewOf tables) line) (zeros single) ≡ readLines single 1 (begun single) (linesOf text)
   unfolding readLines
   stops-refused h f = sym (r .same ∙ rw (line-next text at h, f))
 
   -- a line that is not refused is not bad, so it has an end
-  not-bad : isAccepted (lineRefusal single n (draft policy before) line) ≡ true → line ≡ Bad → ⊥
+  not-bad : isAccepted (lineRefusal single n before (viewOf tables) line) ≡ true → line ≡ Bad → ⊥
   unfolding lineRefusal
-  not-bad f b = true≢false (sym f ∙ ap (λ l. isAccepted (lineRefusal single n (draft policy before) l)) b)
+  not-bad f b = true≢false (sym f ∙ ap (λ l. isAccepted (lineRefusal single n before (viewOf tables) l)) b)
 
-  pub reached-more : at < length text → isAccepted (lineRefusal single n (draft policy before) line) ≡ true →
-      Reached text (added policy line) (keyOf line) (lineRead text at n .next .at) (lineRead text at n .next .line)
+  pub reached-more : at < length text → isAccepted (lineRefusal single n before (viewOf tables) line) ≡ true →
+      Reached text (added tables line) (keyOf line) (lineRead text at n .next .at) (lineRead text at n .next .line)
   unfolding readLines
   reached-more h f =
       let left = line-left text at n (r .within) (not-bad f) in
@@ -76,12 +64,12 @@ module _ (text : List ℕ) (policy : Policy) (before : Key) (at n : ℕ) (r : Re
         same = r .same ∙ rw (line-next text at h, f, lt-ltb (endAt lineEnd text at) (length text) (left .0));
         within = omega (arith, left .0);
         counted = omega (arith, r .counted, end-least lineEnd text at);
-        kept = kept-after (draft policy before) line at-lettered (fine n (draft policy before) line f) (r .kept);
+        kept = kept-after single (draft tables before) line (fine single n before (viewOf tables) line f) (r .kept);
       })
 
-  pub moves-on : isAccepted (lineRefusal single n (draft policy before) line) ≡ true → at < lineRead text at n .next .at
+  pub moves-on : isAccepted (lineRefusal single n before (viewOf tables) line) ≡ true → at < lineRead text at n .next .at
   moves-on f = rw (line-left text at n (r .within) (not-bad f) .1) (omega (arith, end-least lineEnd text at))
 
-  pub stops-end : length text ≤ at → answer (wholeRefusal (viewOf policy)) policy ≡ readLines single 1 begun (linesOf text)
+  pub stops-end : length text ≤ at → answer single (wholeRefusal (viewOf tables)) tables ≡ readLines single 1 (begun single) (linesOf text)
   unfolding readLines
   stops-end h = sym (r .same ∙ rw (lines-end text at h))

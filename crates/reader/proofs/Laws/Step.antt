@@ -8,15 +8,12 @@ use native.Mathlib.Omega.{arith}
 use lib.ListN.{length}
 use Rattle.text.specs.Lines.{linesOf}
 use Rattle.text.specs.declared.line.Line.{Line}
-use Rattle.text.specs.declared.line.Line.the-variants.{Bad, Segment, Partition, Right, Flow, Slot}
-use Rattle.text.proofs.Laws.Letters.{Lettered}
-use Rattle.policy.specs.declared.record.Policy.{Policy}
 use Rattle.policy.specs.declared.record.Key.{Key}
-use Rattle.policy.specs.declared.record.Draft.{Draft}
 use Rattle.policy.specs.declared.record.Refusal.{Refusal}
 use Rattle.policy.specs.Limits.{single}
 use Rattle.policy.specs.Order.{keyOf, kindFalls, idSkips, pairFalls, outOfOrder}
-use Rattle.policy.specs.Record.{zeros, viewOf}
+use Rattle.policy.specs.Tables.{Tables, zeros, viewOf}
+use Rattle.policy.specs.View.{View}
 use Rattle.policy.specs.Draft.{added, begun}
 use Rattle.policy.specs.Refusals.{isAccepted}
 use Rattle.policy.specs.Read.{lineRefusal, answer, readLines}
@@ -24,66 +21,54 @@ use Rattle.policy.proofs.Laws.Bools.{or-left, or-right}
 use Rattle.policy.proofs.Accepted.{fine}
 use Rattle.text.specs.Readers.{lineAt, lineRead}
 use Rattle.text.specs.declared.read.LineRead.{LineRead}
-use Rattle.linerules.specs.Parts.{partDraft, modeOf, Fits}
+use Rattle.linerules.specs.Parts.{partView, Fits}
 use Rattle.linerules.proofs.Laws.Parts.{part-same}
-use Rattle.reader.proofs.Laws.Run.{Reached, at-lettered, stops-refused, reached-more, moves-on}
+use Rattle.reader.proofs.Laws.Run.{Reached, stops-refused, reached-more, moves-on}
 
-mode-small : (line : Line) → Lettered line → modeOf line ≤ 3
-mode-small Bad h = omega arith
-mode-small (Segment id base size) h = omega arith
-mode-small (Partition id code save) h = omega arith
-mode-small (Right partition segment mode) h = h
-mode-small (Flow from to) h = omega arith
-mode-small (Slot partition ticks) h = omega arith
-
-id-next : (before : Key) (policy : Policy) (line : Line) → outOfOrder before (viewOf policy) line ≡ false → idSkips (viewOf policy) line ≡ false
+id-next : (before : Key) (v : View) (line : Line) → outOfOrder before v line ≡ false → idSkips v line ≡ false
 unfolding outOfOrder
-id-next before policy line h =
-    or-right (kindFalls before line) (idSkips (viewOf policy) line)
-    (or-left (kindFalls before line || idSkips (viewOf policy) line) (pairFalls before line) h)
+id-next before v line h =
+    or-right (kindFalls before line) (idSkips v line)
+    (or-left (kindFalls before line || idSkips v line) (pairFalls before line) h)
 
-module _ (text : List ℕ) (policy : Policy) (before : Key) (at n : ℕ) (r : Reached text policy before at n)
+module _ (text : List ℕ) (tables : Tables) (before : Key) (at n : ℕ) (r : Reached text tables before at n)
     (inside : at < length text) (read : LineRead) (refusal : Refusal) (is-read : read ≡ lineRead text at n)
     (is-refusal :
     refusal
-    ≡ lineRefusal single n
-    (partDraft (policy .segments) (policy .partitions) (policy .slots) (policy .base) (policy .size) (policy .code)
-    (policy .save) before)
+    ≡ lineRefusal single n before
+    (partView (tables .segments .count) (tables .partitions .count) (tables .slots .count) (tables .segments .base)
+    (tables .segments .size) (tables .partitions .code) (tables .partitions .save))
     (read .line)) where
-  abbrev draft : Draft
-  draft = record { policy = policy; before = before }
-
   same-line : read .line ≡ lineAt text at
   unfolding lineRead
   same-line = ap (λ l. l .line) is-read
 
-  same-refusal : refusal ≡ lineRefusal single n draft (lineAt text at)
-  same-refusal = is-refusal ∙ sym (part-same n draft (read .line)) ∙ ap (lineRefusal single n draft) same-line
+  same-refusal : refusal ≡ lineRefusal single n before (viewOf tables) (lineAt text at)
+  same-refusal = is-refusal ∙ sym (part-same n before tables (read .line)) ∙ ap (lineRefusal single n before (viewOf tables)) same-line
 
-  pub step-refused : isAccepted refusal ≡ false → answer refusal zeros ≡ readLines single 1 begun (linesOf text)
+  pub step-refused : isAccepted refusal ≡ false → answer single refusal (zeros single) ≡ readLines single 1 (begun single) (linesOf text)
   step-refused h =
       rw same-refusal
-      (stops-refused text policy before at n r inside (sym (ap isAccepted same-refusal) ∙ h))
+      (stops-refused text tables before at n r inside (sym (ap isAccepted same-refusal) ∙ h))
 
-  pub step-fits : isAccepted refusal ≡ true → Fits policy (read .line)
+  pub step-fits : isAccepted refusal ≡ true → Fits (viewOf tables) (read .line)
   step-fits h =
-      let f = fine n draft (read .line) (sym (ap isAccepted (is-refusal ∙ sym (part-same n draft (read .line)))) ∙ h) in
+      let f = fine single n before (viewOf tables) (read .line) (sym (ap isAccepted (is-refusal ∙ sym (part-same n before tables (read .line)))) ∙ h) in
       record {
         in-range = f .passing .ranged;
-        next-id = id-next before policy (read .line) (f .passing .ordered);
+        next-id = id-next before (viewOf tables) (read .line) (f .passing .ordered);
         few-segments = r .kept .counts .segments;
         few-partitions = r .kept .counts .partitions;
         few-slots = r .kept .counts .slots;
-        mode = mode-small (read .line) (rw same-line (at-lettered text policy before at n r));
       }
 
   pub step-more :
-      (next : Policy) (key : Key) → isAccepted refusal ≡ true → next ≡ added policy (read .line)
+      (next : Tables) (key : Key) → isAccepted refusal ≡ true → next ≡ added tables (read .line)
       → key ≡ keyOf (read .line) → Reached text next key (read .next .at) (read .next .line)
   step-more next key h p k =
       rw (p, k, same-line, is-read)
-      (reached-more text policy before at n r inside (sym (ap isAccepted same-refusal) ∙ h))
+      (reached-more text tables before at n r inside (sym (ap isAccepted same-refusal) ∙ h))
 
   -- the place is left past the line, so the text grows shorter
   pub step-shorter : isAccepted refusal ≡ true → at < read .next .at
-  step-shorter h = rw is-read (moves-on text policy before at n r (sym (ap isAccepted same-refusal) ∙ h))
+  step-shorter h = rw is-read (moves-on text tables before at n r (sym (ap isAccepted same-refusal) ∙ h))

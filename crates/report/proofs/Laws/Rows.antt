@@ -1,5 +1,5 @@
 -- How long the rows are, by the widths of their numbers, and how the report is made of them.
-use Prim.Native.Nat.{ℕ, _+_, _<_, _≤_}
+use Prim.Native.Nat.{ℕ, zero, suc, _+_, _*_, _<_, _≤_}
 use mathlib.Core.Path.{_≡_, refl, _∙_}
 use mathlib.Core.List.{List, _++_}
 use native.Mathlib.Numerals.{add-one}
@@ -8,22 +8,20 @@ use borrow.Author.Tests.{eq-eqb, ne-eqb}
 use lib.Dec.{eqb}
 use lib.ListN.{length, length-append}
 use lib.Seq.{sets}
-use Rattle.policy.specs.declared.record.Policy.{Policy}
-use Rattle.policy.specs.declared.record.Reading.{Reading}
 use Rattle.policy.specs.declared.record.Refusal.{Refusal}
 use Rattle.policy.specs.declared.record.Refusal.the-variants.{Accepted, TooLong, Malformed, OutOfOrder, OutOfRange, Clash, Incomplete, CodeUnreadable, FlowMissing}
 use Rattle.policy.specs.View.{View}
 use Rattle.policy.specs.Schedule.{roundTicks}
-use Rattle.policy.specs.Record.{viewOf, givesRead, givesWrite}
+use Rattle.policy.specs.Tables.{Tables, viewOf}
 use Rattle.policy.specs.Refusals.{numberOf, lineNumberOf, isAccepted}
 use Rattle.schedule.proofs.Laws.Sums.{sum-most}
-use Rattle.report.specs.Report.{acceptedRow, segmentRow, segmentRows, refusedRow, reportOfReading}
+use Rattle.report.specs.Report.{acceptedRow, segmentRow, segmentRows, refusedRow, reportWith}
 use Rattle.report.specs.Reportable.{Countable}
-use Rattle.report.specs.Rows.{segmentWith, refusedWith}
+use Rattle.report.specs.Rows.{segmentWith, rowsIn, refusedWith}
 use Rattle.report.specs.Masks.{maskIn}
 use Rattle.report.specs.Written.{Written}
 use Rattle.report.proofs.Laws.Digits.{digits-width}
-use Rattle.report.proofs.Laws.Masks.{reads-same, writes-same}
+use Rattle.report.proofs.Laws.Masks.{mask-small}
 use Rattle.report.proofs.Laws.Written.{written-then}
 
 pub round-small : (v : View) → Countable v → roundTicks v < 100000
@@ -51,15 +49,33 @@ pub refused-length : (number line : ℕ) → number < 10 → line < 100000 → l
 refused-length number line a b = simp length-append (omega (arith, digits-width 0 number a, digits-width 4 line b))
 
 -- One more row.
-pub rows-more : {l m n : List ℕ} {at next q : ℕ} (p : Policy) (s reads writes : ℕ) →
-    reads ≡ maskIn givesRead (p .save) (p .rights) (p .partitions) s →
-    writes ≡ maskIn givesWrite (p .save) (p .rights) (p .partitions) s →
-    Written l at (segmentRows (viewOf p) s) m next →
-    Written m next (segmentWith s reads writes) n q →
-    Written l at (segmentRows (viewOf p) (s + 1)) n q
-unfolding segmentRows segmentRow
-rows-more p s reads writes a b first second =
-    rw (add-one, ← reads-same p s, ← a, ← writes-same p s, ← b) (written-then first second)
+pub rows-more : {l m n : List ℕ} {at next q : ℕ} (save reads writes : List ℕ) (partitions s a b : ℕ) →
+    a ≡ maskIn save reads partitions s →
+    b ≡ maskIn save writes partitions s →
+    Written l at (rowsIn save reads writes partitions s) m next →
+    Written m next (segmentWith s a b) n q →
+    Written l at (rowsIn save reads writes partitions (s + 1)) n q
+unfolding rowsIn
+rows-more save reads writes partitions s a b e f first second = rw (add-one, ← e, ← f) (written-then first second)
+
+pub rows-length : (save reads writes : List ℕ) (partitions n : ℕ) → partitions ≤ 8 → n ≤ 100 →
+    length (rowsIn save reads writes partitions n) ≤ 19 * n
+unfolding rowsIn
+rows-length save reads writes partitions zero few h = omega arith
+rows-length save reads writes partitions (suc n) few h =
+    rw length-append
+    (omega (
+      arith,
+      rows-length save reads writes partitions n few (omega arith),
+      segment-length n _ _ h (mask-small save reads partitions n few) (mask-small save writes partitions n few),
+    ))
+
+-- The rows by the record's lists are those of its view.
+pub rows-same : (t : Tables) (n : ℕ) →
+    rowsIn (t .partitions .save) (t .rights .reads) (t .rights .writes) (t .partitions .count) n ≡ segmentRows (viewOf t) n
+unfolding rowsIn segmentRows segmentRow maskIn
+rows-same t zero = refl
+rows-same t (suc n) = rw (rows-same t n)
 
 pub number-small : (r : Refusal) → numberOf r < 10
 number-small Accepted = omega arith
@@ -83,18 +99,16 @@ accepted-zero Incomplete = refl
 accepted-zero CodeUnreadable = refl
 accepted-zero FlowMissing = refl
 
-pub report-accepted : (reading : Reading) → numberOf (reading .refusal) ≡ 0 →
-    reportOfReading reading
-    ≡ acceptedRow (viewOf (reading .policy)) ++ segmentRows (viewOf (reading .policy)) (reading .policy .segments)
-unfolding reportOfReading
-report-accepted reading e = rw (accepted-zero (reading .refusal), eq-eqb _ _ e)
+module _ (refusal : Refusal) (v : View) where
+  pub report-accepted : numberOf refusal ≡ 0 → reportWith refusal v ≡ acceptedRow v ++ segmentRows v (v .segments)
+  unfolding reportWith
+  report-accepted e = rw (accepted-zero refusal, eq-eqb _ _ e)
 
-pub report-refused : (reading : Reading) (number line : ℕ) → (number ≡ 0 → ⊥) →
-    number ≡ numberOf (reading .refusal) → line ≡ lineNumberOf (reading .refusal) →
-    reportOfReading reading ≡ refusedWith number line
-unfolding reportOfReading refusedRow
-report-refused reading number line h a b =
-    rw (accepted-zero (reading .refusal), ne-eqb (numberOf (reading .refusal)) 0 (λ e. h (a ∙ e)), ← a, ← b)
+  pub report-refused : (number line : ℕ) → (number ≡ 0 → ⊥) → number ≡ numberOf refusal → line ≡ lineNumberOf refusal →
+      reportWith refusal v ≡ refusedWith number line
+  unfolding reportWith refusedRow
+  report-refused number line h a b =
+      rw (accepted-zero refusal, ne-eqb (numberOf refusal) 0 (λ e. h (a ∙ e)), ← a, ← b)
 
 pub report-written : {l m b : List ℕ} {r : ℕ} → Written l 0 b m r → (r ≡ length b) × (m ≡ sets l 0 b)
 report-written {l} {m} {b} {r} w = (omega arith, w .text)

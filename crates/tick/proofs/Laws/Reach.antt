@@ -6,7 +6,7 @@ use mathlib.Core.Path.{_≡_, sym, _∙_}
 use mathlib.Core.Bool.{Bool, true}
 use mathlib.Core.List.{List, [], _∷_}
 use lib.Dec.{ltb}
-use lib.ListN.{getD}
+use lib.ListN.{getD, length}
 use Rattle.machine.specs.declared.Fault.the-variants.{OffsetOver}
 use Rattle.machine.specs.Save.{register}
 use Rattle.machine.specs.Faults.{faults}
@@ -18,19 +18,22 @@ use Rattle.parts.specs.Parts.{savedAt, storedTo}
 use Rattle.tick.specs.Done.{stored}
 
 -- A test's answer, and that it was yes: as a caller of `may` has them.
-module _ {base size : List ℕ} {segments row whole : ℕ} (f : Inside base size segments row whole)
+module _ {base size : List ℕ} {segments whole : ℕ} (f : Inside base size segments whole)
     (answer given : Bool) (c : ℕ) (told : answer ≡ reaches segments given c) (granted : answer ≡ true) where
   reached : c < segments
   reached = reaches-there segments given c (sym told ∙ granted)
 
-  pub reach-few : c < 32
-  reach-few = omega (arith, f .few, reached)
+  pub reach-base : c < length base
+  reach-base = omega (arith, f .base-there, reached)
+
+  pub reach-size : c < length size
+  reach-size = omega (arith, f .size-there, reached)
 
   pub reach-inside : getD base c 0 + getD size c 0 ≤ whole
   reach-inside = f .inside c reached
 
-pub save-inside : {base size : List ℕ} {segments row code save whole : ℕ} → Seated base size segments row code save whole → getD base save 0 + 44 ≤ whole
-save-inside {base} {size} {segments} {row} {code} {save} {whole} f = rw (← f .save-size) (f .every .inside save (f .save-there))
+pub save-inside : {base size : List ℕ} {segments code save whole : ℕ} → Seated base size segments code save whole → getD base save 0 + 44 ≤ whole
+save-inside {base} {size} {segments} {code} {save} {whole} f = rw (← f .save-size) (f .every .inside save (f .save-there))
 
 pub stored-to : (S : Seat) (m : List ℕ) (from a b c : ℕ) (answer : Bool) → answer ≡ mayStore S c → answer ≡ true
     → stored S from m a b c ≡ storedTo m from (S .base c) (S .size c) a b

@@ -57,7 +57,7 @@ returns-2 : tie.Need-returns-2
 unfolding obeys executes
 returns-2 c =
     let arm = c .before .before .before .before .before in
-    rw (arm .before .before .before .d .given .1, arm .i .given .1) (c .before .before .load .ensures)
+    rw (arm .before .before .before .d .given .1, arm .i .given .1) (c .before .before .load .ensures _)
 
 same-length-3 : tie.Need-same-length-3
 same-length-3 c = search needs
@@ -66,7 +66,7 @@ returns-3 : tie.Need-returns-3
 unfolding obeys executes
 returns-3 c =
     let arm = c .before .before .before .before .before in
-    rw (arm .before .before .before .d .given .1, arm .i2 .given .1) (c .before .before .store .ensures)
+    rw (arm .before .before .before .d .given .1, arm .i2 .given .1) (c .before .before .store .ensures _)
 
 same-length-4 : tie.Need-same-length-4
 same-length-4 c = search needs

@@ -24,7 +24,7 @@ entry-requires-3 : tie.Need-entry-requires-3
 entry-requires-3 c κs = search needs
 
 get-counter-requires : tie.Need-get-counter-requires
-get-counter-requires c κs = rw (c .before .before .before .entry .ensures) (save-inside (c .before .before .before .before .before .pre))
+get-counter-requires c κs = rw (c .before .before .before .entry .ensures) (save-inside (c .before .before .before .before .before .before .before .pre))
 
 cast-if1 : tie.Need-cast-if1
 cast-if1 c = search needs
@@ -33,16 +33,16 @@ add-if1 : tie.Need-add-if1
 add-if1 c = search needs
 
 fault-requires : tie.Need-fault-requires
-fault-requires c κs = rw (c .before .before .before .before .before .before .entry .ensures) (save-inside (c .before .before .before .before .before .before .before .before .pre))
+fault-requires c κs = rw (c .before .before .before .before .before .before .entry .ensures) (save-inside (c .before .before .before .before .before .before .before .before .before .before .pre))
 
 fetch-requires : tie.Need-fetch-requires
 fetch-requires c κs =
-    let p = c .before .before .before .before .before .before .before .before .pre in
+    let p = c .before .before .before .before .before .before .before .before .before .before .pre in
     rw (c .before .before .before .before .before .entry2 .ensures, c .before .before .before .before .entry3 .ensures) (p .every .inside _ (p .code-there))
 
 obey-requires : tie.Need-obey-requires
 obey-requires c κs =
-    let p = c .before .before .before .before .before .before .before .before .before .before .pre in
+    let p = c .before .before .before .before .before .before .before .before .before .before .before .before .pre in
     (rw (c .before .before .before .before .before .before .before .before .entry .ensures) (save-inside p), p .every)
 
 same-length : tie.Need-same-length
@@ -72,7 +72,7 @@ returns-2 c =
     let i = d .before .before in
     let k = i .before in
     let s = k .before .before in
-    let a = s .before .before .before .before .args in
+    let a = s .before .before .before .before .before .before .args in
     let fits : ltb (getD (now (a .size)) (a .code) 0) (counter (savedAt (now (a .memory)) (getD (now (a .base)) (a .save) 0)) + 4) ≡ false =
     rw (← s .before .before .entry .ensures, ← s .entry3 .ensures, ← k .get-counter .ensures) (le-ltb _ _ (i .if1 .left)) in
     rw (

@@ -11,12 +11,12 @@ entry-requires : tie.Need-entry-requires
 entry-requires c κs = search needs
 
 takes-interrupt-requires : tie.Need-takes-interrupt-requires
-takes-interrupt-requires c κs = rw (c .before .entry .ensures) (save-inside (c .before .before .before .pre))
+takes-interrupt-requires c κs = rw (c .before .entry .ensures) (save-inside (c .before .before .before .before .before .pre))
 
 interrupt-requires : tie.Need-interrupt-requires
 interrupt-requires c κs =
     let e = c .before .before .before .before in (
-      rw (e .entry .ensures) (save-inside (e .before .before .pre)),
+      rw (e .entry .ensures) (save-inside (e .before .before .before .before .pre)),
       interrupts-due _ (sym (c .before .before .takes-interrupt .ensures) ∙ c .before .if1 .taken),
     )
 
@@ -31,7 +31,7 @@ returns c =
     rw (c .before .before .interrupt .ensures, ← t .before .before .entry .ensures, ← t .takes-interrupt .ensures, i .if1 .taken) (refl, refl)
 
 is-ready-requires : tie.Need-is-ready-requires
-is-ready-requires c κs = rw (c .before .before .before .before .entry .ensures) (save-inside (c .before .before .before .before .before .before .pre))
+is-ready-requires c κs = rw (c .before .before .before .before .entry .ensures) (save-inside (c .before .before .before .before .before .before .before .before .pre))
 
 step-requires : tie.Need-step-requires
 step-requires c κs = search needs

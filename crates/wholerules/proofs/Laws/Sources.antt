@@ -1,51 +1,90 @@
--- Whether p may write t is asked once for all sources: where it may not, none of them is asked for a flow line.
-use Prim.Native.Nat.{ℕ}
+-- One `and` a target decides it: a bit that is asked for and not allowed is a line that is missing, and each missing line is one.
+use Prim.Native.Nat.{ℕ, _^_, _<_}
 use mathlib.Core.Path.{_≡_, refl, sym, _∙_}
-use mathlib.Core.Bool.{Bool, true, false, _&&_, _||_, not}
-use mathlib.Core.List.{List}
+use mathlib.Core.Bool.{Bool, true, false, _&&_, not, true≢false}
+use mathlib.Core.List.{List, []}
+use lib.Bits.{bitAnd, bitOr}
 use lib.Dec.{eqb}
 use lib.ListN.{getD}
+use borrow.Author.Tests.{eq-eqb, ne-eqb, eqb-false}
+use Rattle.bits.specs.Masks.{has}
+use Rattle.bits.proofs.Laws.Masks.{has-with, mask-under, within-at, within-of}
+use Rattle.bits.proofs.Laws.Sets.{has-below}
 use Rattle.policy.specs.Below.{someBelow}
 use Rattle.policy.specs.View.{View}
 use Rattle.policy.specs.Access.{readable, writable}
-use Rattle.policy.specs.Whole.{flowLacks}
-use Rattle.policy.specs.ByTarget.{partitionLacks, targetLacks}
-use Rattle.policy.proofs.Laws.Below.{none-of, some-same}
-use Rattle.wholerules.specs.Masks.{maskOf, flowsIn, maskLacks, AreReadMasks}
-use Rattle.wholerules.proofs.Laws.Masks.{mask-strays}
+use Rattle.policy.specs.ByTarget.{MissingInto, targetLacks}
+use Rattle.policy.proofs.ByTarget.{target-exact}
+use Rattle.policy.proofs.Laws.Below.{some-at, some-found, some-same}
+use Rattle.policy.proofs.Laws.Bools.{and-left, and-right, or-left, or-right}
+use Rattle.wholerules.specs.Masks.{AreReached, askedInto, reach}
+use Rattle.wholerules.specs.Parts.{partsOf}
+use Rattle.wholerules.proofs.Laws.Asked.{asked-under, has-asked}
 
-stray-lacks : (reads own flows : Bool) → reads && not (own || flows) ≡ reads && not own && not flows
-stray-lacks true true flows = refl
-stray-lacks true false flows = refl
-stray-lacks false own flows = refl
+module _
+    (segments partitions : ℕ)
+    (save reads writes sources reached written : List ℕ)
+    (r : AreReached save reads segments partitions reached)
+    (w : AreReached save writes segments partitions written)
+    (t : ℕ)
+    (there : t < segments)
+  where
+    abbrev view : View
+    view = partsOf segments partitions 0 [] save reads writes sources
 
-module _ (v : View) (t : ℕ) where
-  -- What a partition reads, and what may flow into t.
-  abbrev readsOf : ℕ → ℕ
-  readsOf p = maskOf (v .segments) (readable v p)
+    abbrev asked : ℕ
+    asked = askedInto reached written t partitions
 
-  abbrev sourcesOf : ℕ
-  sourcesOf = maskOf (v .segments) (flowsIn v t)
+    abbrev allowed : ℕ
+    allowed = bitOr (getD sources t 0) (2 ^ t)
 
-  of-masks : (p : ℕ) → maskLacks v (readsOf p) sourcesOf t p ≡ partitionLacks v t p
-  of-masks p = go (writable v p t) refl
-    where
-      go : (w : Bool) → writable v p t ≡ w → maskLacks v (readsOf p) sourcesOf t p ≡ partitionLacks v t p
-      go true h =
-          rw h
-          (mask-strays (readable v p) (flowsIn v t) (v .segments)
-          ∙ some-same (λ s. readable v p s && not (flowsIn v t s)) (λ s. readable v p s && not (eqb s t) && not (v .flow s t))
-          (v .segments)
-          (λ s l. stray-lacks (readable v p s) (eqb s t) (v .flow s t)))
-      go false h =
-          let none : maskLacks v (readsOf p) sourcesOf t p ≡ false = rw h in
-          none ∙ sym (none-of (flowLacks v p t) (v .segments) (λ s l. rw h))
+    asks : ℕ → ℕ → Bool
+    asks s p = writable view p t && readable view p s
 
-  -- The test of a target by masks is that of the definition.
-  pub targets-told : (masks : List ℕ) (sources : ℕ) (lacks : Bool) →
-      AreReadMasks v (v .segments) (v .partitions) masks → sources ≡ sourcesOf →
-      lacks ≡ someBelow (v .partitions) (λ p. maskLacks v (getD masks p 0) sources t p) → lacks ≡ targetLacks v t
-  targets-told masks sources lacks h e f =
-      f
-      ∙ some-same (λ p. maskLacks v (getD masks p 0) sources t p) (partitionLacks v t) (v .partitions)
-      (λ p l. rw (h p l, e) (of-masks p))
+    asked-at : (s : ℕ) → s < segments → has asked s ≡ someBelow partitions (asks s)
+    unfolding asks
+    asked-at s l =
+        has-asked reached written t partitions s
+        ∙ some-same (λ p. has (getD written p 0) t && has (getD reached p 0) s) (asks s) partitions
+        (λ p m. rw (r p m, w p m, has-below (reach save writes p) segments t there, has-below (reach save reads p) segments s l))
+
+    missing : (s : ℕ) → s < segments → has asked s ≡ true → has allowed s ≡ false → MissingInto view t
+    unfolding asks
+    missing s l h n =
+        let a = some-at (asks s) partitions (sym (asked-at s l) ∙ h) in
+        let e = sym (has-with (getD sources t 0) t s) ∙ n in
+        record {
+          p = a .number;
+          s = s;
+          partition-there = a .below;
+          target-there = there;
+          source-there = l;
+          written = and-left (writable view (a .number) t) (readable view (a .number) s) (a .passes);
+          read = and-right (writable view (a .number) t) (readable view (a .number) s) (a .passes);
+          another = eqb-false s t (or-right (view .flow s t) (eqb s t) e);
+          missing = or-left (view .flow s t) (eqb s t) e;
+        }
+
+    strays : MissingInto view t → bitAnd asked allowed ≡ asked → ⊥
+    unfolding asks
+    strays m e =
+        let found = some-found (asks (m .s)) partitions (m .p) (m .partition-there) (rw (m .written, m .read)) in
+        let h = within-at asked allowed e (m .s) (asked-at (m .s) (m .source-there) ∙ found) in
+        let n : has allowed (m .s) ≡ false = has-with (getD sources t 0) t (m .s) ∙ rw (m .missing, ne-eqb (m .s) t (m .another)) in
+        true≢false (sym h ∙ n)
+
+    pub target-told : not (eqb (bitAnd asked allowed) asked) ≡ targetLacks view t
+    target-told = go (targetLacks view t) refl
+      where
+        go : (b : Bool) → targetLacks view t ≡ b → not (eqb (bitAnd asked allowed) asked) ≡ targetLacks view t
+        go true e = rw (ne-eqb (bitAnd asked allowed) asked (strays (target-exact view t there .0 e)), e)
+        go false e =
+            let all : bitAnd asked allowed ≡ asked =
+            within-of segments asked allowed
+            (asked-under reached written t segments partitions (λ p m. rw (r p m) (mask-under (reach save reads p) segments)))
+            (λ s l h. let-in s l h (has allowed s) refl) in
+            rw (eq-eqb (bitAnd asked allowed) asked all, e)
+          where
+            let-in : (s : ℕ) → s < segments → has asked s ≡ true → (x : Bool) → has allowed s ≡ x → has allowed s ≡ true
+            let-in s l h true q = q
+            let-in s l h false q = absurd (true≢false (sym (target-exact view t there .1 (missing s l h q)) ∙ e))

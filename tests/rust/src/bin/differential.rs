@@ -2,8 +2,8 @@
 //!
 //!     differential [--seed N] [--texts N] [--records N] [--lists N] [--policycheck PATH] [--reports N]
 
-use separation::boundary::Kernel;
-use separation::compare::{list_difference, record_difference, text_difference, text_gives, Reached, LIST_CASES, TEXT_CASES};
+use separation::boundary::{Kernel, Policy, RECORD};
+use separation::compare::{bytes_sound, list_difference, record_difference, text_difference, text_gives, Reached, LIST_CASES, TEXT_CASES};
 use separation::generate::policies::{full_in_hexadecimal, longest, policy, Shape, DEMONSTRATION};
 use separation::generate::{lists, records, texts};
 use separation::random::Random;
@@ -101,11 +101,11 @@ fn compare_records(options: &Options, kernels: &[Box<dyn Kernel>], reached: &mut
     let begun = Instant::now();
     let mut random = Random::new(options.seed ^ 0x5EC0);
     let mut done = 0;
-    let mut compare = |record: &separation::boundary::Policy, reached: &mut Reached| {
+    let mut compare = |record: &Policy, reached: &mut Reached| {
         done += 1;
         reached.record(record);
-        if sound(record) != text_gives(record) {
-            fail("record", "the reference's rules and the record's text disagree", &show::policy(record));
+        if sound(record) != text_gives(record) || sound(record) != bytes_sound(record) {
+            fail("record", "the reference's rules, the record's text and the record of bytes disagree", &show::policy(record));
         }
         for kernel in kernels {
             if let Some(difference) = record_difference(&**kernel, record) {
@@ -124,11 +124,12 @@ fn compare_records(options: &Options, kernels: &[Box<dyn Kernel>], reached: &mut
         }
         compare(&record, reached);
     }
-    // Each byte of some sound records, changed in five ways.
+    // Each bit of the masks of some sound records turned; each byte changed in five ways.
     for shape in [Shape::SMALL, Shape::MIDDLE, Shape::LARGE, Shape::DENSE] {
         let record = policy(&mut random, shape);
         compare(&record, reached);
-        for at in 0..records::ENTRY_BYTES {
+        records::near(&record).iter().for_each(|other| compare(other, reached));
+        for at in 0..RECORD {
             for change in
                 [|byte: u8| byte ^ 1, |byte: u8| byte ^ 2, |byte: u8| byte ^ 128, |byte: u8| byte.wrapping_add(1), |byte: u8| byte.wrapping_sub(1)]
             {

@@ -47,8 +47,7 @@ fn caught_after(leak: Leak, most: usize) -> Option<usize> {
             // The flows out of save segments dropped: such a record is sound to this kernel alone.
             let mut weak = policy(&mut random, Shape::APART);
             for p in 0..weak.partitions as usize {
-                let from = 32 * weak.save[p] as usize;
-                weak.flows[from..from + 32].fill(0);
+                (0..32).for_each(|to| weak.set_flow(weak.save[p] as usize, to, false));
             }
             run_pair_under(&mut random, weak)
         } else {

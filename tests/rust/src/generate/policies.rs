@@ -137,7 +137,7 @@ fn rights(random: &mut Random, policy: &mut Policy, shape: Shape) {
             } else {
                 0
             };
-            policy.rights[32 * p + s] = right as u8;
+            policy.set_right(p, s, right as u8);
         }
     }
 }
@@ -150,7 +150,7 @@ fn flows(random: &mut Random, policy: &mut Policy, shape: Shape) {
         for to in 0..segments {
             let needed = (0..policy.partitions as usize).any(|p| readable(policy, p, from) && writable(policy, p, to));
             if from != to && (needed || more && random.one_in(shape.flow_rate)) {
-                policy.flows[32 * from + to] = 1;
+                policy.set_flow(from, to, true);
             }
         }
     }
@@ -179,12 +179,10 @@ pub fn longest() -> Policy {
     for p in 0..8 {
         policy.code[p] = 10 + p as u8;
         policy.save[p] = p as u8;
-        for s in 8..32 {
-            policy.rights[32 * p + s] = 3;
-        }
+        (8..32).for_each(|s| policy.set_right(p, s, 3));
     }
-    for at in 0..1_024 {
-        policy.flows[at] = (at / 32 != at % 32) as u8;
+    for from in 0..32 {
+        (0..32).for_each(|to| policy.set_flow(from, to, from != to));
     }
     for slot in 0..32 {
         policy.slot_partition[slot] = slot as u8 % 8;
@@ -200,9 +198,7 @@ pub fn full_in_hexadecimal() -> Policy {
         policy.code[p] = 8 + p as u8;
         // The first two may do all; the others read their code and the last segment.
         if p >= 2 {
-            policy.rights[32 * p..32 * p + 32].fill(0);
-            policy.rights[32 * p + 8 + p] = 1;
-            policy.rights[32 * p + 31] = 1;
+            (8..32).for_each(|s| policy.set_right(p, s, (s == 8 + p || s == 31) as u8));
         }
     }
     policy

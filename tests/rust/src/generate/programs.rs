@@ -144,8 +144,7 @@ impl Writer<'_> {
             });
         }
         let bit = if opcode == 7 { 1 } else { 2 };
-        let rights = &self.policy.rights[32 * self.partition..32 * self.partition + 32];
-        let open: Vec<u8> = (0..32).filter(|&s| rights[s as usize] & bit != 0).collect();
+        let open: Vec<u8> = (0..32).filter(|&s| self.policy.right(self.partition, s as usize) & bit != 0).collect();
         (!open.is_empty()).then(|| self.random.pick(&open))
     }
 

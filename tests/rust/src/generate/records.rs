@@ -1,70 +1,44 @@
-//! Records near the sound ones: one entry changed, a stray byte, a count out of range, or nothing sound at all.
+//! Records near the sound ones: one entry or one bit changed, a count out of range, or nothing sound at all.
 
-use crate::boundary::Policy;
+use crate::boundary::{Policy, RECORD};
 use crate::random::Random;
-
-/// The number of bytes that are an entry's, without the padding.
-pub const ENTRY_BYTES: usize = 1_523;
-
-/// The byte of a record at a place below ENTRY_BYTES, in the order of the entries; two-byte entries low byte first.
-fn byte_at(policy: &Policy, at: usize) -> (Part, usize) {
-    let mut left = at;
-    for (part, length) in [
-        (Part::Segments, 1),
-        (Part::Partitions, 1),
-        (Part::Slots, 1),
-        (Part::Base, 64),
-        (Part::Size, 64),
-        (Part::Code, 8),
-        (Part::Save, 8),
-        (Part::SlotPartition, 32),
-        (Part::SlotTicks, 64),
-        (Part::Rights, policy.rights.len()),
-        (Part::Flows, policy.flows.len()),
-    ] {
-        if left < length {
-            return (part, left);
-        }
-        left -= length;
-    }
-    panic!("no such byte of a record")
-}
-
-enum Part {
-    Segments,
-    Partitions,
-    Slots,
-    Base,
-    Size,
-    Code,
-    Save,
-    SlotPartition,
-    SlotTicks,
-    Rights,
-    Flows,
-}
 
 /// Changes one byte of a record.
 pub fn change(policy: &mut Policy, at: usize, with: impl Fn(u8) -> u8) {
-    let two = |entry: &mut u16, high: bool| {
-        let mut bytes = entry.to_le_bytes();
-        bytes[high as usize] = with(bytes[high as usize]);
-        *entry = u16::from_le_bytes(bytes);
+    let mut bytes = policy.bytes();
+    bytes[at] = with(bytes[at]);
+    *policy = Policy::of_bytes(bytes);
+}
+
+/// The masks of a record: of each partition those of r and w, then the sources of each segment.
+pub fn masks(policy: &mut Policy) -> impl Iterator<Item = &mut u32> {
+    policy.reads.iter_mut().chain(&mut policy.writes).chain(&mut policy.sources)
+}
+
+/// A record with every single bit of every mask turned (bits past the last segment, on save segments, from a segment to itself, bit 31, and those of
+/// masks that aren't in use); every mask with all bits, none, or the highest alone; and the unused byte not 0.
+pub fn near(policy: &Policy) -> Vec<Policy> {
+    let mut records = Vec::new();
+    let mut with = |at: usize, value: fn(u32, u32) -> u32, bit: u32| {
+        let mut other = *policy;
+        let mask = masks(&mut other).nth(at).unwrap();
+        *mask = value(*mask, 1 << bit);
+        records.push(other);
     };
-    let (part, i) = byte_at(policy, at);
-    match part {
-        Part::Segments => policy.segments = with(policy.segments),
-        Part::Partitions => policy.partitions = with(policy.partitions),
-        Part::Slots => policy.slots = with(policy.slots),
-        Part::Base => two(&mut policy.base[i / 2], i % 2 == 1),
-        Part::Size => two(&mut policy.size[i / 2], i % 2 == 1),
-        Part::Code => policy.code[i] = with(policy.code[i]),
-        Part::Save => policy.save[i] = with(policy.save[i]),
-        Part::SlotPartition => policy.slot_partition[i] = with(policy.slot_partition[i]),
-        Part::SlotTicks => two(&mut policy.slot_ticks[i / 2], i % 2 == 1),
-        Part::Rights => policy.rights[i] = with(policy.rights[i]),
-        Part::Flows => policy.flows[i] = with(policy.flows[i]),
+    for at in 0..8 + 8 + 32 {
+        (0..32).for_each(|bit| with(at, |mask, bit| mask ^ bit, bit));
+        with(at, |_, _| u32::MAX, 0);
+        with(at, |mask, _| !mask, 0);
+        with(at, |_, _| 0, 0);
+        with(at, |_, bit| bit, 31);
     }
+    for all in [0, u32::MAX] {
+        let mut other = *policy;
+        masks(&mut other).for_each(|mask| *mask = all);
+        records.push(other);
+    }
+    (1..=255).for_each(|unused| records.push(Policy { unused, ..*policy }));
+    records
 }
 
 /// One to three changes to a record, most of them small.
@@ -81,7 +55,7 @@ fn one_change(random: &mut Random, policy: &mut Policy) {
     let p = random.below(partitions + 1).min(7);
     let slot = random.below(slots + 1).min(31);
     let small = random.pick(&[0, 1, 2, 3, 4, 7, 8, 9, 31, 32, 33, 128, 255]);
-    match random.below(16) {
+    match random.below(18) {
         0 => policy.segments = random.pick(&[policy.segments.wrapping_add(1), policy.segments.wrapping_sub(1), 0, 31, 32, 33, 255]),
         1 => policy.partitions = random.pick(&[policy.partitions.wrapping_add(1), policy.partitions.wrapping_sub(1), 0, 7, 8, 9, 255]),
         2 => policy.slots = random.pick(&[policy.slots.wrapping_add(1), policy.slots.wrapping_sub(1), 0, 31, 32, 33, 255]),
@@ -92,25 +66,35 @@ fn one_change(random: &mut Random, policy: &mut Policy) {
         7 => policy.save[p] = random.pick(&[small, s as u8, policy.code[p], policy.save[0]]),
         8 => policy.slot_partition[slot] = random.pick(&[small, p as u8]),
         9 => policy.slot_ticks[slot] = random.pick(&[0, 1, 2, 256, 999, 1_000, 1_001, 65_535]),
-        10 => policy.rights[32 * p + s] = random.pick(&[0, 1, 2, 3, 4, 5, 128, 255]),
-        11 => policy.rights[32 * p + policy.code[p] as usize % 32] = random.pick(&[0, 1, 2, 3]),
-        12 => policy.rights[32 * p + policy.save[p] as usize % 32] = random.pick(&[0, 1, 2, 3]),
-        13 => policy.flows[32 * s + random.below(segments + 1).min(31)] ^= random.pick(&[1, 1, 1, 2, 128]),
-        14 => policy.flows[33 * s] = random.pick(&[0, 1, 2]),
+        10 => policy.set_right(p, s, random.pick(&[0, 1, 2, 3])),
+        11 => policy.set_right(p, policy.code[p] as usize % 32, random.pick(&[0, 1, 2, 3])),
+        12 => policy.set_right(p, policy.save[p] as usize % 32, random.pick(&[0, 1, 2, 3])),
+        13 => policy.sources[s] ^= 1 << random.below(segments + 1).min(31),
+        14 => policy.sources[s] ^= 1 << s,
+        15 => one_mask(random, policy),
+        16 => policy.unused = random.byte(),
         _ => {
-            let (at, value) = (random.below(ENTRY_BYTES), random.byte());
+            let (at, value) = (random.below(RECORD), random.byte());
             change(policy, at, |_| value);
         }
     }
 }
 
+/// A mask gets a bit of its highest, another bit turned, or a value of its own.
+fn one_mask(random: &mut Random, policy: &mut Policy) {
+    let (at, bit, any) = (random.below(8 + 8 + 32), 1 << random.below(32), random.number() as u32);
+    let kind = random.below(4);
+    let mask = masks(policy).nth(at).unwrap();
+    *mask = match kind {
+        0 => *mask | 1 << 31,
+        1 => *mask ^ bit,
+        2 => any,
+        _ => u32::MAX,
+    };
+}
+
 /// Every byte at random.
 pub fn noise(random: &mut Random) -> Policy {
-    let mut policy = Policy::ZERO;
     let small = random.one_in(2);
-    for at in 0..ENTRY_BYTES {
-        let value = if small { random.byte() & 3 } else { random.byte() };
-        change(&mut policy, at, |_| value);
-    }
-    policy
+    Policy::of_bytes([(); RECORD].map(|()| if small { random.byte() & 3 } else { random.byte() }))
 }

@@ -1,7 +1,7 @@
 //! Reading a policy: refusals 1 to 8, in their order.
 
 use super::line::{parse, Kind, Line};
-use super::record::{lacks_code_right, lacks_flow};
+use super::record::Lines;
 use crate::boundary::{Policy, ReadResult};
 
 /// A refused text: the number, the line, and why (for the count of what the tests have reached).
@@ -18,27 +18,19 @@ pub struct Refusal {
 #[derive(Default)]
 struct Seen {
     kind: Option<Kind>,
-    /// base, length
-    segments: Vec<(u32, u32)>,
-    /// code segment, save segment
-    partitions: Vec<(u32, u32)>,
-    /// partition, segment, right
-    rights: Vec<(u32, u32, u8)>,
-    /// from, to
-    flows: Vec<(u32, u32)>,
-    /// partition, ticks
-    slots: Vec<(u32, u32)>,
+    lines: Lines,
 }
 
 /// "A refusal returns number, line and the record of zeros. An accepted text returns number 0, line 0 and its record."
 pub fn read(text: &[u8]) -> ReadResult {
     match judge(text) {
-        Ok(policy) => ReadResult { number: 0, line: 0, policy },
+        Ok(lines) => ReadResult { number: 0, line: 0, policy: lines.record() },
         Err(refusal) => ReadResult { number: refusal.number, line: refusal.line, policy: Policy::ZERO },
     }
 }
 
-pub fn judge(text: &[u8]) -> Result<Policy, Refusal> {
+/// The lines of an accepted text.
+pub fn judge(text: &[u8]) -> Result<Lines, Refusal> {
     let refuse = |number, line, why| Err(Refusal { number, line, why, also: None });
     // "1: over 16,384 bytes, line 0."
     if text.len() > 16_384 {
@@ -69,25 +61,25 @@ pub fn judge(text: &[u8]) -> Result<Policy, Refusal> {
         seen.add(&line);
     }
     // "Then, with line 0: 6: no segment, partition or slot."
-    if seen.segments.is_empty() {
+    let lines = seen.lines;
+    if lines.segments.is_empty() {
         return refuse(6, 0, "6 no segment");
     }
-    if seen.partitions.is_empty() {
+    if lines.partitions.is_empty() {
         return refuse(6, 0, "6 no partition");
     }
-    if seen.slots.is_empty() {
+    if lines.slots.is_empty() {
         return refuse(6, 0, "6 no slot");
     }
-    let policy = seen.record();
     // "7: a partition lacks r on its code segment."
-    if lacks_code_right(&policy) {
+    if lines.lack_code_right() {
         return refuse(7, 0, "7 no r on the code segment");
     }
     // "8: for some p, t in W(p) and s in R(p) other than t, 'flow s t' is missing."
-    if lacks_flow(&policy) {
+    if lines.lack_flow() {
         return refuse(8, 0, "8 flow missing");
     }
-    Ok(policy)
+    Ok(lines)
 }
 
 impl Seen {
@@ -99,13 +91,13 @@ impl Seen {
         }
         match *line {
             // "Ids run 0, 1, 2 without a gap."
-            Line::Segment { id, .. } if id as usize != self.segments.len() => Some("3 segment id out of order"),
-            Line::Partition { id, .. } if id as usize != self.partitions.len() => Some("3 partition id out of order"),
+            Line::Segment { id, .. } if id as usize != self.lines.segments.len() => Some("3 segment id out of order"),
+            Line::Partition { id, .. } if id as usize != self.lines.partitions.len() => Some("3 partition id out of order"),
             // "Right pairs (partition, segment) and flow pairs (from, to) strictly ascend, first number first."
-            Line::Right { partition, segment, .. } if self.rights.last().is_some_and(|&(p, s, _)| (partition, segment) <= (p, s)) => {
+            Line::Right { partition, segment, .. } if self.lines.rights.last().is_some_and(|&(p, s, _)| (partition, segment) <= (p, s)) => {
                 Some("3 right pair out of order")
             }
-            Line::Flow { from, to } if self.flows.last().is_some_and(|&last| (from, to) <= last) => Some("3 flow pair out of order"),
+            Line::Flow { from, to } if self.lines.flows.last().is_some_and(|&last| (from, to) <= last) => Some("3 flow pair out of order"),
             _ => None,
         }
     }
@@ -113,11 +105,11 @@ impl Seen {
     /// "4: more than 32 segments, 8 partitions or 32 slots; a length or tick count out of range; base + length over 16,384; a partition or segment
     /// named that isn't there."
     fn range(&self, line: &Line) -> Option<&'static str> {
-        let segment_there = |id: u32| (id as usize) < self.segments.len();
-        let partition_there = |id: u32| (id as usize) < self.partitions.len();
+        let segment_there = |id: u32| (id as usize) < self.lines.segments.len();
+        let partition_there = |id: u32| (id as usize) < self.lines.partitions.len();
         match *line {
             Line::Segment { base, length, .. } => {
-                if self.segments.len() >= 32 {
+                if self.lines.segments.len() >= 32 {
                     Some("4 more than 32 segments")
                 // "a length of 1 to 4,096"
                 } else if length < 1 {
@@ -131,7 +123,7 @@ impl Seen {
                 }
             }
             Line::Partition { code, save, .. } => {
-                if self.partitions.len() >= 8 {
+                if self.lines.partitions.len() >= 8 {
                     Some("4 more than 8 partitions")
                 } else if !segment_there(code) {
                     Some("4 code segment not there")
@@ -161,7 +153,7 @@ impl Seen {
             }
             // "slot: partition, ticks (1 to 1,000)"
             Line::Slot { partition, ticks } => {
-                if self.slots.len() >= 32 {
+                if self.lines.slots.len() >= 32 {
                     Some("4 more than 32 slots")
                 } else if ticks < 1 {
                     Some("4 ticks 0")
@@ -182,25 +174,25 @@ impl Seen {
         match *line {
             Line::Segment { base, length, .. } => {
                 let overlaps = |&(b, l): &(u32, u32)| base < b + l && b < base + length;
-                self.segments.iter().any(overlaps).then_some("5 overlap")
+                self.lines.segments.iter().any(overlaps).then_some("5 overlap")
             }
             Line::Partition { code, save, .. } => {
-                let size = self.segments.get(save as usize).map(|segment| segment.1);
+                let size = self.lines.segments.get(save as usize).map(|segment| segment.1);
                 if size.is_some_and(|length| length != 44) {
                     Some("5 save length not 44")
-                } else if self.partitions.iter().any(|other| other.1 == save) {
+                } else if self.lines.partitions.iter().any(|other| other.1 == save) {
                     Some("5 save of two partitions")
                 } else if code == save {
                     Some("5 code and save of the same")
-                } else if self.partitions.iter().any(|other| other.0 == save) {
+                } else if self.lines.partitions.iter().any(|other| other.0 == save) {
                     Some("5 save is the code of another")
-                } else if self.partitions.iter().any(|other| other.1 == code) {
+                } else if self.lines.partitions.iter().any(|other| other.1 == code) {
                     Some("5 code is the save of another")
                 } else {
                     None
                 }
             }
-            Line::Right { segment, .. } => self.partitions.iter().any(|p| p.1 == segment).then_some("5 right on a save segment"),
+            Line::Right { segment, .. } => self.lines.partitions.iter().any(|p| p.1 == segment).then_some("5 right on a save segment"),
             Line::Flow { from, to } => (from == to).then_some("5 flow to itself"),
             Line::Slot { .. } => None,
         }
@@ -209,38 +201,11 @@ impl Seen {
     fn add(&mut self, line: &Line) {
         self.kind = Some(line.kind());
         match *line {
-            Line::Segment { base, length, .. } => self.segments.push((base, length)),
-            Line::Partition { code, save, .. } => self.partitions.push((code, save)),
-            Line::Right { partition, segment, right } => self.rights.push((partition, segment, right)),
-            Line::Flow { from, to } => self.flows.push((from, to)),
-            Line::Slot { partition, ticks } => self.slots.push((partition, ticks)),
+            Line::Segment { base, length, .. } => self.lines.segments.push((base, length)),
+            Line::Partition { code, save, .. } => self.lines.partitions.push((code, save)),
+            Line::Right { partition, segment, right } => self.lines.rights.push((partition, segment, right)),
+            Line::Flow { from, to } => self.lines.flows.push((from, to)),
+            Line::Slot { partition, ticks } => self.lines.slots.push((partition, ticks)),
         }
-    }
-
-    /// "The policy record holds the numbers of segments, partitions and slots; [..]. Unused entries are 0."
-    fn record(&self) -> Policy {
-        let mut policy = Policy::ZERO;
-        policy.segments = self.segments.len() as u8;
-        policy.partitions = self.partitions.len() as u8;
-        policy.slots = self.slots.len() as u8;
-        for (id, &(base, length)) in self.segments.iter().enumerate() {
-            policy.base[id] = base as u16;
-            policy.size[id] = length as u16;
-        }
-        for (id, &(code, save)) in self.partitions.iter().enumerate() {
-            policy.code[id] = code as u8;
-            policy.save[id] = save as u8;
-        }
-        for (slot, &(partition, ticks)) in self.slots.iter().enumerate() {
-            policy.slot_partition[slot] = partition as u8;
-            policy.slot_ticks[slot] = ticks as u16;
-        }
-        for &(partition, segment, right) in &self.rights {
-            policy.rights[32 * partition as usize + segment as usize] = right;
-        }
-        for &(from, to) in &self.flows {
-            policy.flows[32 * from as usize + to as usize] = 1;
-        }
-        policy
     }
 }

@@ -1,113 +1,122 @@
-//! Sound records, by bit masks.
+//! Sound records, by masks. Loops over tables go over all entries and have no early end, so that they can be done on many entries at once.
 
 use crate::boundary::Policy;
 
-/// The lowest n bits.
-fn low(n: usize) -> u32 {
-    ((1_u64 << n) - 1) as u32
+/// What the partitions' lines give: for each partition R(p) and W(p) as masks, 0 past the last, and the mask of all save segments.
+pub struct Roles {
+    pub reached: [u32; 8],
+    pub written: [u32; 8],
+    pub saves: u32,
 }
+
+/// Bit t at place t.
+const BITS: [u32; 32] = {
+    let mut bits = [0; 32];
+    let mut t = 0;
+    while t < 32 {
+        bits[t] = 1 << t;
+        t += 1;
+    }
+    bits
+};
 
 pub fn sound(policy: &Policy) -> bool {
     let (segments, partitions, slots) = (policy.segments as usize, policy.partitions as usize, policy.slots as usize);
-    if segments.wrapping_sub(1) >= 32 || partitions.wrapping_sub(1) >= 8 || slots.wrapping_sub(1) >= 32 {
+    if segments.wrapping_sub(1) >= 32 || partitions.wrapping_sub(1) >= 8 || slots.wrapping_sub(1) >= 32 || policy.unused != 0 {
         return false;
     }
-    if !segments_sound(policy, segments) {
-        return false;
+    let Some(roles) = roles(policy, segments, partitions) else { return false };
+    let there = u32::MAX >> (32 - segments);
+    segments_sound(policy, segments)
+        && slots_sound(policy, partitions, slots)
+        && masks_sound(policy, partitions, there, there & !roles.saves)
+        && !flow_missing(policy, &roles, partitions)
+}
+
+/// Code and save segments, with rule 7.
+fn roles(policy: &Policy, segments: usize, partitions: usize) -> Option<Roles> {
+    // Past the last partition all is 0.
+    let past = |bytes: [u8; 8]| u64::from_le_bytes(bytes) >> (8 * (partitions - 1)) >> 8;
+    if past(policy.code) | past(policy.save) != 0 {
+        return None;
     }
-    let (mut saves, mut codes) = (0_u32, 0_u32);
+    let mut roles = Roles { reached: [0; 8], written: [0; 8], saves: 0 };
+    let mut codes = 0_u32;
     for p in 0..partitions {
         let (code, save) = (policy.code[p] as usize, policy.save[p] as usize);
-        if code >= segments || save >= segments || policy.size[save] != 44 || saves >> save & 1 != 0 {
-            return false;
+        if code.max(save) >= segments || policy.size[save] != 44 || policy.reads[p] >> code & 1 == 0 {
+            return None;
         }
-        saves |= 1 << save;
+        roles.reached[p] = policy.reads[p] | 1 << save;
+        roles.written[p] = policy.writes[p] | 1 << save;
+        roles.saves |= 1 << save;
         codes |= 1 << code;
     }
-    if saves & codes != 0 || policy.code[partitions..].iter().chain(&policy.save[partitions..]).any(|&byte| byte != 0) {
-        return false;
-    }
-    for slot in 0..slots {
-        if policy.slot_partition[slot] as usize >= partitions || policy.slot_ticks[slot].wrapping_sub(1) >= 1_000 {
-            return false;
-        }
-    }
-    if policy.slot_partition[slots..].iter().any(|&p| p != 0) || policy.slot_ticks[slots..].iter().any(|&ticks| ticks != 0) {
-        return false;
-    }
-    let Some(rows) = flow_rows(policy, segments) else { return false };
-    rights_sound(policy, partitions, low(segments) & !saves, &rows)
+    (roles.saves & codes == 0 && roles.saves.count_ones() as usize == partitions).then_some(roles)
 }
 
 fn segments_sound(policy: &Policy, segments: usize) -> bool {
-    let mut ends = [0_u32; 32];
-    for id in 0..segments {
-        let (base, size) = (u32::from(policy.base[id]), u32::from(policy.size[id]));
-        let end = base + size;
-        if size.wrapping_sub(1) >= 4_096 || end > 16_384 {
-            return false;
-        }
-        // No early end in the loop, so that it can be done on many segments at once.
-        let mut overlap = false;
-        for (earlier, &earlier_end) in ends[..id].iter().enumerate() {
-            overlap |= (base < earlier_end) & (u32::from(policy.base[earlier]) < end);
-        }
-        if overlap {
-            return false;
-        }
-        ends[id] = end;
+    // With a sign, which the numbers in range are too small for.
+    let (bases, mut ends) = (policy.base.map(|base| base as i16), [0_i16; 32]);
+    let mut bad = false;
+    for (id, (&base, &size)) in policy.base.iter().zip(&policy.size).enumerate() {
+        // All bits in an entry in use, where a size is 1 to 4,096 and the base at most what is left; else both are 0.
+        let used = 0_u16.wrapping_sub((id < segments) as u16);
+        bad |= (size.wrapping_sub(used & 1) > 4_095 & used) | (base > 16_384_u16.wrapping_sub(size) & used);
+        ends[id] = base.wrapping_add(size) as i16;
     }
-    policy.base[segments..].iter().chain(&policy.size[segments..]).all(|&value| value == 0)
+    !bad && !overlap(&bases, &ends, segments)
 }
 
-/// For each segment the mask of those that it flows into, or None if a flow is neither 0 nor 1, unused or to itself.
-fn flow_rows(policy: &Policy, segments: usize) -> Option<[u32; 32]> {
-    let mut rows = [0_u32; 32];
-    let mut stray = 0_u64;
-    for (from, bytes) in policy.flows.chunks_exact(32).enumerate() {
-        let mut row = 0_u32;
-        for (i, eight) in bytes.chunks_exact(8).enumerate() {
-            let word = u64::from_le_bytes(eight.try_into().unwrap());
-            stray |= word & !0x0101_0101_0101_0101;
-            row |= ((word.wrapping_mul(0x0102_0408_1020_4080) >> 56) as u32) << (8 * i);
+/// Some segment meets another than itself.
+fn overlap(bases: &[i16; 32], ends: &[i16; 32], segments: usize) -> bool {
+    let mut met = [0_i16; 32];
+    for (&base, &end) in bases.iter().zip(ends).take(segments) {
+        for ((met, &other), &other_end) in met.iter_mut().zip(bases).zip(ends) {
+            *met += ((base < other_end) & (other < end)) as i16;
         }
-        let allowed = if from < segments { low(segments) & !(1 << from) } else { 0 };
-        stray |= u64::from(row & !allowed);
-        rows[from] = row;
     }
-    (stray == 0).then_some(rows)
+    met.iter().sum::<i16>() as usize != segments
 }
 
-/// Rights in range and on allowed segments only, r on the code segments, and the flows that rule 8 asks for.
-fn rights_sound(policy: &Policy, partitions: usize, allowed: u32, rows: &[u32; 32]) -> bool {
-    for (p, bytes) in policy.rights.chunks_exact(32).enumerate() {
-        let (mut reads, mut writes, mut stray) = (0_u32, 0_u32, 0_u64);
-        for (i, eight) in bytes.chunks_exact(8).enumerate() {
-            let word = u64::from_le_bytes(eight.try_into().unwrap());
-            let pack = |bits: u64| ((bits & 0x0101_0101_0101_0101).wrapping_mul(0x0102_0408_1020_4080) >> 56) as u32;
-            stray |= word & !0x0303_0303_0303_0303;
-            reads |= pack(word) << (8 * i);
-            writes |= pack(word >> 1) << (8 * i);
-        }
-        let allowed = if p < partitions { allowed } else { 0 };
-        if stray != 0 || (reads | writes) & !allowed != 0 {
-            return false;
-        }
-        if p < partitions {
-            if reads >> policy.code[p] & 1 == 0 {
-                return false;
-            }
-            reads |= 1 << policy.save[p];
-            writes |= 1 << policy.save[p];
-            let mut rest = reads;
-            while rest != 0 {
-                let from = rest.trailing_zeros() as usize;
-                if writes & !(1 << from) & !rows[from] != 0 {
-                    return false;
-                }
-                rest &= rest - 1;
-            }
+fn slots_sound(policy: &Policy, partitions: usize, slots: usize) -> bool {
+    let mut bad = false;
+    for slot in 0..32 {
+        let used = 0_u8.wrapping_sub((slot < slots) as u8);
+        bad |= policy.slot_partition[slot] > (partitions - 1) as u8 & used;
+    }
+    for slot in 0..32 {
+        let used = 0_u16.wrapping_sub((slot < slots) as u16);
+        bad |= policy.slot_ticks[slot].wrapping_sub(used & 1) > 999 & used;
+    }
+    !bad
+}
+
+/// No stray bit: rights on segments that may have one, flows between two segments that are there.
+fn masks_sound(policy: &Policy, partitions: usize, there: u32, open: u32) -> bool {
+    let mut stray = 0;
+    for p in 0..8 {
+        let allowed = if p < partitions { open } else { 0 };
+        stray |= (policy.reads[p] | policy.writes[p]) & !allowed;
+    }
+    for (&sources, bit) in policy.sources.iter().zip(&BITS) {
+        let allowed = if there & bit != 0 { there & !bit } else { 0 };
+        stray |= sources & !allowed;
+    }
+    stray == 0
+}
+
+/// Rule 8: for each target what the partitions that write it read, less its sources and itself.
+pub fn flow_missing(policy: &Policy, roles: &Roles, partitions: usize) -> bool {
+    let mut asked = [0_u32; 32];
+    for p in 0..partitions {
+        for (asked, bit) in asked.iter_mut().zip(&BITS) {
+            *asked |= if roles.written[p] & bit != 0 { roles.reached[p] } else { 0 };
         }
     }
-    true
+    let mut missing = 0;
+    for ((asked, sources), bit) in asked.iter().zip(&policy.sources).zip(&BITS) {
+        missing |= asked & !(sources | bit);
+    }
+    missing != 0
 }

@@ -8,8 +8,9 @@ use native.Mathlib.Omega.{arith}
 use lib.ListN.{length, getD}
 use borrow.Author.Needs.{needs}
 use borrow.Rule.Slice.PartMut.{mid-len}
-use Rattle.policy.specs.declared.record.Policy.{Policy}
-use Rattle.policy.specs.Record.{viewOf}
+use Rattle.policy.specs.Limits.{Limits, single}
+use Rattle.policy.specs.Tables.{Tables, viewOf}
+use Rattle.policy.specs.Record.{tablesOf}
 use Rattle.policy.specs.Sound.{soundOf}
 use Rattle.policy.proofs.Lawful.{lawful}
 use Rattle.calls.specs.Start.{cleared}
@@ -18,7 +19,7 @@ use Rattle.kernel.proofs.clear.clear_saves.Tie as tie
 
 abbrev Inv-loop : tie.InvT-loop
 Inv-loop memory₀ policy count i₀ memory i =
-    (i ≤ count) × (length memory ≡ length memory₀) × (memory ≡ cleared (viewOf policy) i memory₀)
+    (i ≤ count) × (length memory ≡ length memory₀) × (memory ≡ cleared (viewOf (tablesOf policy)) i memory₀)
 
 abbrev μ-loop : tie.MeasureT-loop
 μ-loop memory₀ policy count i₀ memory i = count - i
@@ -45,17 +46,19 @@ sub-clear c = search needs
 part-clear-start : tie.Need-part-clear-start Inv-loop μ-loop
 part-clear-start c = search needs
 
-save-inside : (p : Policy) → soundOf p ≡ true → (q : ℕ) → q < p .partitions → getD (p .base) (getD (p .save) q 0) 0 + 44 ≤ 16384
-save-inside p sound q there =
-    let w = lawful p sound in
-    let size : getD (p .size) (getD (p .save) q 0) 0 ≡ 44 = w .save-size q there in
-    rw size at (w .inside (getD (p .save) q 0) (w .save-there q there))
+save-inside : (limits : Limits) (t : Tables) → soundOf limits t ≡ true → (q : ℕ) → q < t .partitions .count
+    → getD (t .segments .base) (getD (t .partitions .save) q 0) 0 + 44 ≤ limits .memory
+save-inside limits t sound q there =
+    let w = lawful limits t sound in
+    let s = getD (t .partitions .save) q 0 in
+    let size : getD (t .segments .size) s 0 ≡ 44 = w .save-size q there in
+    rw size at (w .inside s (w .save-there q there))
 
 room : (c : tie.After-save-from Inv-loop μ-loop) → c .save-from .result + 44 ≤ length (c .before .before .before .before .before .before .before .loop .memory)
 room c =
     let turn = c .before .before .before .before .before .before .before in
     let start = turn .before .before in
-    rw (c .save-from .ensures, turn .loop .inv .1, start .pre .1) (save-inside (start .args .t1) (start .pre .0) (turn .loop .i) (omega arith))
+    rw (c .save-from .ensures, turn .loop .inv .1, start .pre .1) (save-inside single (tablesOf (start .args .t1)) (start .pre .0) (turn .loop .i) (omega arith))
 
 part-clear-end : tie.Need-part-clear-end Inv-loop μ-loop
 part-clear-end c = room c
@@ -89,7 +92,7 @@ returns c =
     let h = c .before .loop in
     let a = c .before .before .before .args in
     let e : h .i ≡ a .t1 .partitions = omega arith in
-    h .inv .2 ∙ ap (λ n. cleared (viewOf (a .t1)) n (a .memory .now)) e
+    h .inv .2 ∙ ap (λ n. cleared (viewOf (tablesOf (a .t1))) n (a .memory .now)) e
 
 pub clear-saves-spec : {M : Type 1} → statement M
 clear-saves-spec =

@@ -12,13 +12,13 @@ use Rattle.kernel.proofs.running.stretch.Statement.{statement}
 use Rattle.kernel.proofs.running.stretch.Tie as tie
 
 abbrev Inv-loop : tie.InvT-loop
-Inv-loop memory₀ base size rights segments row code save n i₀ memory i =
+Inv-loop memory₀ base size reads writes segments code save n i₀ memory i =
     (i ≤ n)
     × (length memory ≡ length memory₀)
-    × (memory ≡ tickedBy (seatOf base size rights segments row) code save i memory₀)
+    × (memory ≡ tickedBy (seatOf base size reads writes segments) code save i memory₀)
 
 abbrev μ-loop : tie.MeasureT-loop
-μ-loop memory₀ base size rights segments row code save n i₀ memory i = n - i
+μ-loop memory₀ base size reads writes segments code save n i₀ memory i = n - i
 
 loop-holds : tie.Need-loop-holds Inv-loop μ-loop
 loop-holds c = (search needs, refl, none-yet _ _ _ _)
@@ -26,7 +26,7 @@ loop-holds c = (search needs, refl, none-yet _ _ _ _)
 tick-requires : tie.Need-tick-requires Inv-loop μ-loop
 tick-requires c κs =
     let b = c .before .before in
-    rw (b .loop .inv .1) (b .before .before .pre)
+    rw (b .loop .inv .1) (b .before .before .before .before .pre)
 
 same-length : tie.Need-same-length Inv-loop μ-loop
 same-length c = search needs
@@ -57,7 +57,7 @@ same-length-2 c = c .before .loop .inv .1
 returns-2 : tie.Need-returns-2 Inv-loop μ-loop
 returns-2 c =
     let h = c .before .loop in
-    let a = c .before .before .before .args in
+    let a = c .before .before .before .before .before .args in
     let e : a .n ≡ h .i = omega arith in
     rw e (h .inv .2)
 

@@ -1,4 +1,4 @@
--- The tests stand in the order of the rules, each on the part of the draft that it reads.
+-- The tests stand in the order of the rules, each on the part of the record that it reads.
 use mathlib.Core.Path.{sym, _∙_}
 use borrow.Author.Needs.{needs}
 use Rattle.linerules.proofs.Laws.Fits.{range-ends}

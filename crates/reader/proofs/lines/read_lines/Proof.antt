@@ -1,14 +1,23 @@
 -- Before each line, what is left to read gives the answer of the whole text (Reached); the text grows shorter with each
 -- line. A line that no rule refuses has its place in the record, and what is stored there is what the line adds.
-use Prim.Native.Nat.{_-_, _<_}
-use mathlib.Core.Path.{_≡_, sym, _∙_, ap}
+use Prim.Native.Nat.{ℕ, _-_, _<_}
+use mathlib.Core.Path.{_≡_, refl, sym, _∙_, ap}
+use mathlib.Core.Bool.{Bool, true, false, cond}
+use mathlib.Core.List.{List}
 use mathlib.Core.Logic.{⊎-elim}
 use native.Mathlib.Omega.{arith}
 use borrow.Author.Needs.{needs}
 use borrow.Author.Tests.{not-true, not-false}
-use lib.ListN.{length}
-use Rattle.policy.specs.Draft.{added}
+use lib.ListN.{length, getD, set}
+use lib.Seq.{set-getD}
+use Rattle.bits.specs.Masks.{withBit}
+use Rattle.text.specs.declared.line.Line.the-variants.{Right}
+use Rattle.policy.specs.declared.record.Policy.{Policy}
+use Rattle.policy.specs.Draft.{added, withBitAt, withRights}
+use Rattle.policy.specs.Modes.{givesRead, givesWrite}
 use Rattle.policy.specs.Order.{keyOf}
+use Rattle.policy.specs.Record.{tablesOf}
+use Rattle.policy.specs.Tables.{viewOf}
 use Rattle.linerules.specs.Parts.{Fits}
 use Rattle.linerules.proofs.Laws.Fits.{segment-fits, partition-fits, right-fits, flow-fits, slot-fits}
 use Rattle.reader.proofs.Laws.Run.{Reached, reached-first, stops-end}
@@ -17,7 +26,7 @@ use Rattle.reader.proofs.lines.read_lines.Statement.{statement}
 use Rattle.reader.proofs.lines.read_lines.Tie as tie
 
 abbrev Inv-loop : tie.InvT-loop
-Inv-loop text policy₀ before₀ c₀ policy before c = Reached text policy before (c .at) (c .line)
+Inv-loop text policy₀ before₀ c₀ policy before c = Reached text (tablesOf policy) before (c .at) (c .line)
 
 abbrev μ-loop : tie.MeasureT-loop
 μ-loop text policy₀ before₀ c₀ policy before c = length text - c .at
@@ -53,7 +62,7 @@ returns c =
 
 -- A line that no rule refuses fits the record.
 fits : (e : tie.Else2 Inv-loop μ-loop) →
-    Fits (e .before .before .before .before .before .before .before .before .before .before .before .before .before .before .before .loop .policy)
+    Fits (viewOf (tablesOf (e .before .before .before .before .before .before .before .before .before .before .before .before .before .before .before .loop .policy)))
     (e .before .before .before .before .before .before .before .before .before .before .before .before .line-from .result .line)
 fits e =
     let ruled = e .before .before in
@@ -71,7 +80,7 @@ partition-in : (c : tie.After-known-told2 Inv-loop μ-loop) →
 partition-in c = partition-fits _ _ _ _ (rw (c .before .line2 .given .1) at (fits (c .before .before .before)))
 
 right-in : (c : tie.After-known-told3 Inv-loop μ-loop) →
-    let g = c .before .line3 .given .0 in (g .0 < 8) × (g .1 .0 < 32) × (g .1 .1 .0 < 4)
+    let g = c .before .line3 .given .0 in (g .0 < 8) × (g .1 .0 < 32)
 right-in c = right-fits _ _ _ _ (rw (c .before .line3 .given .1) at (fits (c .before .before .before)))
 
 flow-in : (c : tie.After-known-told4 Inv-loop μ-loop) →
@@ -148,72 +157,117 @@ cast-policy-10 c = omega (arith, partition-in c)
 enum-known-line-3 : tie.Need-enum-known-line-3 Inv-loop μ-loop
 enum-known-line-3 c = search needs
 
-cast-policy-11 : tie.Need-cast-policy-11 Inv-loop μ-loop
-cast-policy-11 c = omega (arith, right-in c)
+cast-p : tie.Need-cast-p Inv-loop μ-loop
+cast-p c = omega (arith, right-in c)
+
+mul-with-read : tie.Need-mul-with-read Inv-loop μ-loop
+mul-with-read c = omega (arith, right-in c)
+
+element-copy-out-with-read : tie.Need-element-copy-out-with-read Inv-loop μ-loop
+element-copy-out-with-read c = omega (arith, right-in c)
+
+with-read-requires : tie.Need-with-read-requires Inv-loop μ-loop
+with-read-requires c κs = right-in (c .before) .1
 
 mul-policy-3 : tie.Need-mul-policy-3 Inv-loop μ-loop
-mul-policy-3 c = omega (arith, right-in c)
-
-add-policy-3 : tie.Need-add-policy-3 Inv-loop μ-loop
-add-policy-3 c = omega (arith, right-in c)
-
-cast-policy-12 : tie.Need-cast-policy-12 Inv-loop μ-loop
-cast-policy-12 c = omega (arith, right-in c)
+mul-policy-3 c = omega (arith, right-in (c .before .before))
 
 element-write-policy-5 : tie.Need-element-write-policy-5 Inv-loop μ-loop
-element-write-policy-5 c = omega (arith, right-in c)
+element-write-policy-5 c = omega (arith, right-in (c .before .before))
+
+mul-with-write : tie.Need-mul-with-write Inv-loop μ-loop
+mul-with-write c = omega (arith, right-in (c .before .before))
+
+element-copy-out-with-write : tie.Need-element-copy-out-with-write Inv-loop μ-loop
+element-copy-out-with-write c = omega (arith, right-in (c .before .before))
+
+with-write-requires : tie.Need-with-write-requires Inv-loop μ-loop
+with-write-requires c κs = right-in (c .before .before .before) .1
+
+mul-policy-4 : tie.Need-mul-policy-4 Inv-loop μ-loop
+mul-policy-4 c = omega (arith, right-in (c .before .before .before .before))
+
+element-write-policy-6 : tie.Need-element-write-policy-6 Inv-loop μ-loop
+element-write-policy-6 c = omega (arith, right-in (c .before .before .before .before))
 
 enum-known-line-4 : tie.Need-enum-known-line-4 Inv-loop μ-loop
 enum-known-line-4 c = search needs
 
-mul-policy-4 : tie.Need-mul-policy-4 Inv-loop μ-loop
-mul-policy-4 c = omega (arith, flow-in c)
+cast-t : tie.Need-cast-t Inv-loop μ-loop
+cast-t c = omega (arith, flow-in c)
 
-add-policy-4 : tie.Need-add-policy-4 Inv-loop μ-loop
-add-policy-4 c = omega (arith, flow-in c)
+mul-with-low-bit : tie.Need-mul-with-low-bit Inv-loop μ-loop
+mul-with-low-bit c = omega (arith, flow-in c)
 
-cast-policy-13 : tie.Need-cast-policy-13 Inv-loop μ-loop
-cast-policy-13 c = omega (arith, flow-in c)
+element-copy-out-with-low-bit : tie.Need-element-copy-out-with-low-bit Inv-loop μ-loop
+element-copy-out-with-low-bit c = omega (arith, flow-in c)
 
-element-write-policy-6 : tie.Need-element-write-policy-6 Inv-loop μ-loop
-element-write-policy-6 c = omega (arith, flow-in c)
+with-low-bit-requires : tie.Need-with-low-bit-requires Inv-loop μ-loop
+with-low-bit-requires c κs = flow-in (c .before) .0
+
+mul-policy-5 : tie.Need-mul-policy-5 Inv-loop μ-loop
+mul-policy-5 c = omega (arith, flow-in (c .before .before))
+
+element-write-policy-7 : tie.Need-element-write-policy-7 Inv-loop μ-loop
+element-write-policy-7 c = omega (arith, flow-in (c .before .before))
 
 enum-known-line-5 : tie.Need-enum-known-line-5 Inv-loop μ-loop
 enum-known-line-5 c = search needs
 
-cast-policy-14 : tie.Need-cast-policy-14 Inv-loop μ-loop
-cast-policy-14 c = omega (arith, slot-in c)
+cast-policy-11 : tie.Need-cast-policy-11 Inv-loop μ-loop
+cast-policy-11 c = omega (arith, slot-in c)
 
-cast-policy-15 : tie.Need-cast-policy-15 Inv-loop μ-loop
-cast-policy-15 c = omega (arith, slot-in c)
-
-element-write-policy-7 : tie.Need-element-write-policy-7 Inv-loop μ-loop
-element-write-policy-7 c = omega (arith, slot-in c)
-
-cast-policy-16 : tie.Need-cast-policy-16 Inv-loop μ-loop
-cast-policy-16 c = omega (arith, slot-in c)
-
-cast-policy-17 : tie.Need-cast-policy-17 Inv-loop μ-loop
-cast-policy-17 c = omega (arith, slot-in c)
-
-mul-policy-5 : tie.Need-mul-policy-5 Inv-loop μ-loop
-mul-policy-5 c = omega (arith, slot-in c)
+cast-policy-12 : tie.Need-cast-policy-12 Inv-loop μ-loop
+cast-policy-12 c = omega (arith, slot-in c)
 
 element-write-policy-8 : tie.Need-element-write-policy-8 Inv-loop μ-loop
 element-write-policy-8 c = omega (arith, slot-in c)
 
-add-policy-5 : tie.Need-add-policy-5 Inv-loop μ-loop
-add-policy-5 c = omega (arith, slot-in c)
+cast-policy-13 : tie.Need-cast-policy-13 Inv-loop μ-loop
+cast-policy-13 c = omega (arith, slot-in c)
+
+cast-policy-14 : tie.Need-cast-policy-14 Inv-loop μ-loop
+cast-policy-14 c = omega (arith, slot-in c)
+
+mul-policy-6 : tie.Need-mul-policy-6 Inv-loop μ-loop
+mul-policy-6 c = omega (arith, slot-in c)
+
+element-write-policy-9 : tie.Need-element-write-policy-9 Inv-loop μ-loop
+element-write-policy-9 c = omega (arith, slot-in c)
+
+add-policy-3 : tie.Need-add-policy-3 Inv-loop μ-loop
+add-policy-3 c = omega (arith, slot-in c)
+
+-- A mask that is stored with its bit, or as it was.
+put-where : (b : Bool) (masks : List ℕ) (p s : ℕ) →
+    set masks p (cond b (withBit (getD masks p 0) s) (getD masks p 0)) ≡ cond b (withBitAt masks p s) masks
+put-where true masks p s = refl
+put-where false masks p s = set-getD masks p 0
+
+stored-right : (q : Policy) (p s mode r w : ℕ) →
+    r ≡ cond (givesRead mode) (withBit (getD (q .reads) p 0) s) (getD (q .reads) p 0) →
+    w ≡ cond (givesWrite mode) (withBit (getD (q .writes) p 0) s) (getD (q .writes) p 0) →
+    withRights (tablesOf q) (record { reads = set (q .reads) p r; writes = set (q .writes) p w }) ≡ added (tablesOf q) (Right p s mode)
+unfolding added
+stored-right q p s mode r w er ew =
+    rw (er, ew, put-where (givesRead mode) (q .reads) p s, put-where (givesWrite mode) (q .writes) p s)
 
 -- What the arms store is what the line adds, and the line stays what it was.
-stored : (c : tie.At-match-came Inv-loop μ-loop) → c .match .policy ≡ added (c .before .before .before .before .before .before .before .before .before .before .before .before .before .before .before .before .loop .policy) (c .before .before .before .before .before .before .before .before .before .before .before .before .before .line-from .result .line)
+stored : (c : tie.At-match-came Inv-loop μ-loop) → tablesOf (c .match .policy) ≡ added (tablesOf (c .before .before .before .before .before .before .before .before .before .before .before .before .before .before .before .before .loop .policy)) (c .before .before .before .before .before .before .before .before .before .before .before .before .before .line-from .result .line)
 unfolding added
 stored c =
-    ⊎-elim (λ a. rw (a .1 .given .1) (a .2))
-    (⊎-elim (λ a. rw (a .1 .given .1) (a .3))
-    (⊎-elim (λ a. rw (a .1 .given .1) (a .3))
-    (⊎-elim (λ a. rw (a .1 .given .1) (a .3))
-    (⊎-elim (λ a. rw (a .1 .given .1) (a .3)) (λ a. rw (a .1 .given .1) (a .3))))))
+    ⊎-elim (λ a. rw (a .1 .given .1) (ap tablesOf (a .2)))
+    (⊎-elim (λ a. rw (a .1 .given .1) (ap tablesOf (a .3)))
+    (⊎-elim (λ a. rw (a .1 .given .1) (ap tablesOf (a .3)))
+    (⊎-elim
+    (λ a.
+    rw (a .1 .given .1)
+    (ap tablesOf (a .7)
+    ∙ stored-right (c .before .before .before .before .before .before .before .before .before .before .before .before .before .before .before .before .loop .policy)
+    (a .1 .given .0 .0) (a .1 .given .0 .1 .0) (a .1 .given .0 .1 .1 .0) _ _ (a .4 .ensures) (a .6 .ensures)))
+    (⊎-elim
+    (λ a. rw (a .1 .given .1) (ap tablesOf (a .5) ∙ rw (a .4 .ensures)))
+    (λ a. rw (a .1 .given .1) (ap tablesOf (a .3)))))))
     (c .match .came)
 
 same-line : (c : tie.At-match-came Inv-loop μ-loop) → c .match .line ≡ c .before .before .before .before .before .before .before .before .before .before .before .before .before .line-from .result .line
@@ -221,8 +275,8 @@ same-line c =
     ⊎-elim (λ a. a .3)
     (⊎-elim (λ a. a .4 ∙ sym (a .1 .given .1))
     (⊎-elim (λ a. a .4 ∙ sym (a .1 .given .1))
-    (⊎-elim (λ a. a .4 ∙ sym (a .1 .given .1))
-    (⊎-elim (λ a. a .4 ∙ sym (a .1 .given .1)) (λ a. a .4 ∙ sym (a .1 .given .1))))))
+    (⊎-elim (λ a. a .8 ∙ sym (a .1 .given .1))
+    (⊎-elim (λ a. a .6 ∙ sym (a .1 .given .1)) (λ a. a .4 ∙ sym (a .1 .given .1))))))
     (c .match .came)
 
 key-of-requires : tie.Need-key-of-requires Inv-loop μ-loop
@@ -292,25 +346,33 @@ read-lines-spec =
     add-policy-2
     cast-policy-10
     enum-known-line-3
-    cast-policy-11
+    cast-p
+    mul-with-read
+    element-copy-out-with-read
+    with-read-requires
     mul-policy-3
-    add-policy-3
-    cast-policy-12
     element-write-policy-5
-    enum-known-line-4
+    mul-with-write
+    element-copy-out-with-write
+    with-write-requires
     mul-policy-4
-    add-policy-4
-    cast-policy-13
     element-write-policy-6
-    enum-known-line-5
-    cast-policy-14
-    cast-policy-15
-    element-write-policy-7
-    cast-policy-16
-    cast-policy-17
+    enum-known-line-4
+    cast-t
+    mul-with-low-bit
+    element-copy-out-with-low-bit
+    with-low-bit-requires
     mul-policy-5
+    element-write-policy-7
+    enum-known-line-5
+    cast-policy-11
+    cast-policy-12
     element-write-policy-8
-    add-policy-5
+    cast-policy-13
+    cast-policy-14
+    mul-policy-6
+    element-write-policy-9
+    add-policy-3
     key-of-requires
     loop-less
     loop-again

@@ -2,12 +2,13 @@
 use mathlib.Core.Path.{_≡_, refl}
 use mathlib.Core.Bool.{Bool, true, false, cond}
 use borrow.Author.Needs.{needs}
-use Rattle.policy.specs.declared.record.Policy.{Policy}
+use Rattle.policy.specs.Limits.{single}
+use Rattle.policy.specs.Tables.{Tables, zeros}
 use Rattle.policy.specs.Refusals.{isAccepted}
 use Rattle.reader.proofs.lines.refused.Statement.{statement}
 use Rattle.reader.proofs.lines.refused.Tie as tie
 
-cond-same : (b : Bool) (p : Policy) → cond b p p ≡ p
+cond-same : (b : Bool) (p : Tables) → cond b p p ≡ p
 cond-same true p = refl
 cond-same false p = refl
 
@@ -15,7 +16,7 @@ zeros-requires : tie.Need-zeros-requires
 zeros-requires c κs = search needs
 
 returns : tie.Need-returns
-returns c = rw (c .zeros .ensures, cond-same (isAccepted (c .before .args .refusal)))
+returns c = rw (c .zeros .ensures, cond-same (isAccepted (c .before .args .refusal)) (zeros single))
 
 pub refused-spec : {M : Type 1} → statement M
 refused-spec = tie.close (tie.spec zeros-requires returns)

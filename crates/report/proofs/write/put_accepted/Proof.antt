@@ -1,7 +1,8 @@
 -- The row of the record's counts, and of the round that was summed.
 use native.Mathlib.Omega.{arith}
 use borrow.Author.Needs.{needs}
-use Rattle.policy.specs.Record.{viewOf}
+use Rattle.policy.specs.Tables.{viewOf}
+use Rattle.policy.specs.Record.{tablesOf}
 use Rattle.report.specs.Report.{acceptedRow}
 use Rattle.report.proofs.Laws.Rows.{round-small, accepted-length}
 use Rattle.report.proofs.write.put_accepted.Statement.{statement}
@@ -29,7 +30,7 @@ put-row-requires : tie.Need-put-row-requires
 unfolding acceptedRow
 put-row-requires c κs =
     let start = c .before .before .before .before .before .before in
-    let v = viewOf (start .args .t1) in
+    let v = viewOf (tablesOf (start .args .t1)) in
     let k = start .pre in
     rw (c .before .before .before .round-ticks .ensures)
     ((omega (arith, k .few-partitions), (omega (arith, k .few-segments), (omega (arith, k .few-slots), (round-small v k, tt)))), omega (arith, accepted-length v k))

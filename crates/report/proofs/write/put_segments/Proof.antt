@@ -1,100 +1,47 @@
--- The loop has written the rows of the segments that it has passed, at most 19 bytes each.
-use Prim.Native.Nat.{_+_, _*_, _-_, _≤_, _<_}
-use mathlib.Core.Path.{_≡_}
-use native.Mathlib.Omega.{arith}
-use lib.ListN.{length}
+-- The widened masks are the record's, and the rows by its lists are those of its view.
 use borrow.Author.Needs.{needs}
-use Rattle.policy.specs.Record.{viewOf, givesRead, givesWrite}
-use Rattle.report.specs.Report.{segmentRows}
-use Rattle.report.specs.Rows.{segmentWith}
-use Rattle.report.specs.Written.{Written}
-use Rattle.report.proofs.Laws.Written.{written-none}
-use Rattle.report.proofs.Laws.Masks.{mask-small}
-use Rattle.report.proofs.Laws.Rows.{rows-more, segment-length}
+use Rattle.policy.specs.Record.{tablesOf}
+use Rattle.report.proofs.Laws.Rows.{rows-same}
 use Rattle.report.proofs.write.put_segments.Statement.{statement}
 use Rattle.report.proofs.write.put_segments.Tie as tie
 
-abbrev Inv-loop : tie.InvT-loop
-Inv-loop out₀ at policy count next₀ s₀ word out next s =
-    (s ≤ policy .segments)
-    × (next ≤ at + 19 * s)
-    × Written out₀ at (segmentRows (viewOf policy) s) out next
+slice-aggregate-widen : tie.Need-slice-aggregate-widen
+slice-aggregate-widen c = search needs
 
-abbrev μ-loop : tie.MeasureT-loop
-μ-loop out₀ at policy count next₀ s₀ word out next s = policy .segments - s
+widen-requires : tie.Need-widen-requires
+widen-requires c κs = search needs
 
-loop-holds : tie.Need-loop-holds Inv-loop μ-loop
-unfolding segmentRows
-loop-holds c = (omega arith, omega arith, written-none _ _)
+slice-aggregate-widen-2 : tie.Need-slice-aggregate-widen-2
+slice-aggregate-widen-2 c = search needs
 
-masks-of-requires : tie.Need-masks-of-requires Inv-loop μ-loop
-masks-of-requires c κs =
-    let k = c .before .before .before .before .before .pre .0 in
-    omega arith
+widen-requires-2 : tie.Need-widen-requires-2
+widen-requires-2 c κs = search needs
 
-cast-t15 : tie.Need-cast-t15 Inv-loop μ-loop
-cast-t15 c = omega arith
+slice-aggregate-put-rows : tie.Need-slice-aggregate-put-rows
+slice-aggregate-put-rows c = search needs
 
-slice-aggregate-put-row : tie.Need-slice-aggregate-put-row Inv-loop μ-loop
-slice-aggregate-put-row c = search needs
+slice-aggregate-put-rows-2 : tie.Need-slice-aggregate-put-rows-2
+slice-aggregate-put-rows-2 c = search needs
 
-slice-aggregate-put-row-2 : tie.Need-slice-aggregate-put-row-2 Inv-loop μ-loop
-slice-aggregate-put-row-2 c = search needs
+put-rows-requires : tie.Need-put-rows-requires
+put-rows-requires c κs = search needs
 
-small : (c : tie.After-masks-of Inv-loop μ-loop) →
-    (c .masks-of .result .reads < 256) × (c .masks-of .result .writes < 256)
-small c =
-    let l = c .before .before .before .before .before in
-    let k = l .before .pre .0 .few-partitions in
-    (rw (c .masks-of .ensures .0) (mask-small givesRead _ _ _ _ k), rw (c .masks-of .ensures .1) (mask-small givesWrite _ _ _ _ k))
-
-length-most : (c : tie.After-masks-of Inv-loop μ-loop) →
-    length (segmentWith (c .before .before .before .before .before .loop .s) (c .masks-of .result .reads) (c .masks-of .result .writes)) ≤ 19
-length-most c =
-    let k = c .before .before .before .before .before .before .pre .0 in
-    segment-length _ _ _ (omega (arith, k .few-segments)) (small c .0) (small c .1)
-
-put-row-requires : tie.Need-put-row-requires Inv-loop μ-loop
-put-row-requires c κs =
-    let m = c .before .before .before in
-    let l = m .before .before .before .before .before in
-    let k = l .before .pre in
-    let few = k .0 .few-segments in
-    ((omega arith, (omega (arith, small m .0), (omega (arith, small m .1), tt))), omega (arith, length-most m, l .loop .inv .1))
-
-add-s : tie.Need-add-s Inv-loop μ-loop
-add-s c = omega arith
-
-loop-less : tie.Need-loop-less Inv-loop μ-loop
-loop-less c = omega arith
-
-loop-again : tie.Need-loop-again Inv-loop μ-loop
-loop-again c =
-    let m = c .before .before .before .before in
-    let l = m .before .before .before .before .before in (
-      omega arith,
-      omega (arith, length-most m, l .loop .inv .1, c .put-row .ensures .place),
-      rows-more (l .before .args .t1) _ _ _ (m .masks-of .ensures .0) (m .masks-of .ensures .1) (l .loop .inv .2) (c .put-row .ensures),
-    )
-
-returns : tie.Need-returns Inv-loop μ-loop
+returns : tie.Need-returns
 returns c =
-    let e : c .before .loop .s ≡ c .before .before .args .t1 .segments = omega arith in
-    rw e at (c .before .loop .inv .2)
+    let w = c .before .before .before .before .before .before .before .before in
+    let r = w .before .before .before .before .before .before in
+    let policy = r .before .before .before .before .before .args .t1 in
+    rw (r .widen .ensures .0, w .widen2 .ensures .0, rows-same (tablesOf policy)) at (c .put-rows .ensures)
 
 pub put-segments-spec : {M : Type 1} → statement M
 put-segments-spec =
     tie.close
     (tie.spec
-    Inv-loop
-    μ-loop
-    loop-holds
-    masks-of-requires
-    cast-t15
-    slice-aggregate-put-row
-    slice-aggregate-put-row-2
-    put-row-requires
-    add-s
-    loop-less
-    loop-again
+    slice-aggregate-widen
+    widen-requires
+    slice-aggregate-widen-2
+    widen-requires-2
+    slice-aggregate-put-rows
+    slice-aggregate-put-rows-2
+    put-rows-requires
     returns)

@@ -21,7 +21,7 @@ put-segments-requires c κs =
 returns : tie.Need-returns
 returns c =
     let s = c .before .before .before .before .before .before in
-    rw (report-accepted (s .before .args .reading) (sym (s .number-of .ensures) ∙ c .before .before .before .before .before .if1 .taken))
+    rw (report-accepted _ _ (sym (s .number-of .ensures) ∙ c .before .before .before .before .before .if1 .taken))
     (report-written (written-then (c .before .before .put-accepted .ensures) (c .put-segments .ensures)))
 
 line-number-of-requires : tie.Need-line-number-of-requires
@@ -46,7 +46,7 @@ returns-2 : tie.Need-returns-2
 returns-2 c =
     let line = c .before .before .before .before in
     let s = line .before .before in
-    rw (report-refused (s .before .args .reading) _ _ (line .before .if1 .left) (s .number-of .ensures) (line .line-number-of .ensures))
+    rw (report-refused _ _ _ _ (line .before .if1 .left) (s .number-of .ensures) (line .line-number-of .ensures))
     (report-written (c .put-row .ensures))
 
 pub write-report-spec : {M : Type 1} → statement M

@@ -2,7 +2,7 @@
 use denote.Ref.{now}
 use Rattle.machine.specs.Tick.{storesByte}
 use Rattle.tick.specs.Seat.{seatOf}
-use Rattle.tick.proofs.Laws.Reach.{reach-few, reach-inside, stored-to}
+use Rattle.tick.proofs.Laws.Reach.{reach-base, reach-size, reach-inside, stored-to}
 use borrow.Author.Needs.{needs}
 use Rattle.tick.proofs.storing.store.Statement.{statement}
 use Rattle.tick.proofs.storing.store.Tie as tie
@@ -13,17 +13,17 @@ may-requires c κs = search needs
 entry-requires : tie.Need-entry-requires
 entry-requires c κs =
     let m = c .before .before in
-    reach-few (m .before .before .pre .1) _ _ _ (m .may .ensures) (c .before .if1 .taken)
+    reach-base (m .before .before .before .before .pre .1) _ _ _ (m .may .ensures) (c .before .if1 .taken)
 
 entry-requires-2 : tie.Need-entry-requires-2
 entry-requires-2 c κs =
     let m = c .before .before .before in
-    reach-few (m .before .before .pre .1) _ _ _ (m .may .ensures) (c .before .before .if1 .taken)
+    reach-size (m .before .before .before .before .pre .1) _ _ _ (m .may .ensures) (c .before .before .if1 .taken)
 
 store-to-requires : tie.Need-store-to-requires
 store-to-requires c κs =
     let i = c .before .before .before in
-    let p = i .before .before .before .pre in
+    let p = i .before .before .before .before .before .pre in
     (p .0, rw (c .before .entry .ensures, c .entry2 .ensures) (reach-inside (p .1) _ _ _ (i .before .may .ensures) (i .if1 .taken)))
 
 fault-requires : tie.Need-fault-requires
@@ -33,16 +33,16 @@ same-length : tie.Need-same-length
 same-length c = search needs
 
 returns : tie.Need-returns
-returns c =
+returns c reads =
     let e = c .before .before .before in
     let i = e .before .before .before in
-    let a = i .before .before .before .args in
+    let a = i .before .before .before .before .before .args in
     rw (
       c .before .before .store-to .ensures,
       e .entry2 .ensures,
       e .before .entry .ensures,
       stored-to
-          (seatOf (now (a .base)) (now (a .size)) (now (a .rights)) (a .segments) (a .row))
+          (seatOf (now (a .base)) (now (a .size)) reads (a .writes) (a .segments))
           (now (a .memory))
           (a .from)
           (a .a)
@@ -58,7 +58,7 @@ same-length-2 c = search needs
 
 returns-2 : tie.Need-returns-2
 unfolding storesByte
-returns-2 c =
+returns-2 c reads =
     let i = c .before .before .before .before in
     rw (c .before .before .fault .ensures, ← i .before .may .ensures, i .if1 .left)
 

@@ -2,12 +2,14 @@
 use mathlib.Core.Path.{_≡_}
 use mathlib.Core.Bool.{true, false}
 use mathlib.Core.List.{[]}
+use native.Mathlib.Omega.{arith}
 use borrow.Author.Tests.{not-true, not-false}
 use borrow.Author.Needs.{needs}
 use Rattle.policy.proofs.Entries.{counts}
 use Rattle.policy.specs.Limits.{single}
 use Rattle.policy.specs.Read.{wholeRefusal}
 use Rattle.policy.specs.Sound.{countsFit, unusedZero}
+use Rattle.policy.specs.Tables.{viewOf}
 use Rattle.policy.specs.Whole.{incomplete, codeUnreadable, flowMissing}
 use Rattle.validate.specs.Parts.{recordOf}
 use Rattle.validate.proofs.test.lent_passes.Statement.{statement}
@@ -16,8 +18,8 @@ use Rattle.validate.proofs.test.lent_passes.Tie as tie
 returns : tie.Need-returns
 unfolding countsFit
 returns c =
-    let n = c .before .before .before .before .before .before .before .before .before .args .counts in
-    let over : countsFit single (recordOf n [] [] [] [] [] [] [] []) ≡ false = not-true _ (c .if1 .taken) in
+    let n = c .before .before .before .before .before .before .before .before .before .before .args .counts in
+    let over : countsFit single (viewOf (recordOf n [] [] [] [] [] [] [] [] [])) ≡ false = not-true _ (c .if1 .taken) in
     rw over
 
 unused-zero-requires : tie.Need-unused-zero-requires
@@ -26,16 +28,18 @@ unused-zero-requires c κs = search needs
 lines-hold-requires : tie.Need-lines-hold-requires
 unfolding countsFit
 lines-hold-requires c κs =
-    let start = c .before .before .before .before .before .before .before .before .before .before in
-    let fit = counts (recordOf (start .args .counts) [] [] [] [] [] [] [] []) (not-false _ (c .before .if1 .left)) in
+    let start = c .before .before .before .before .before .before .before .before .before .before .before in
+    let v = viewOf (recordOf (start .args .counts) [] [] [] [] [] [] [] [] []) in
+    let fit = counts single v (not-false _ (c .before .if1 .left)) in
     ((fit .segments, fit .partitions), start .pre)
 
 lent-refusal-requires : tie.Need-lent-refusal-requires
 unfolding countsFit
 lent-refusal-requires c κs =
-    let start = c .before .before .before .before .before .before .before .before .before .before .before in
-    let fit = counts (recordOf (start .args .counts) [] [] [] [] [] [] [] []) (not-false _ (c .before .before .if1 .left)) in
-    (fit .segments, fit .partitions)
+    let start = c .before .before .before .before .before .before .before .before .before .before .before .before in
+    let v = viewOf (recordOf (start .args .counts) [] [] [] [] [] [] [] [] []) in
+    let fit = counts single v (not-false _ (c .before .before .if1 .left)) in
+    (omega (arith, fit .segments), omega (arith, fit .partitions))
 
 is-accepted-requires : tie.Need-is-accepted-requires
 is-accepted-requires c κs = search needs
@@ -44,8 +48,9 @@ returns-2 : tie.Need-returns-2
 unfolding countsFit unusedZero wholeRefusal incomplete codeUnreadable flowMissing
 returns-2 c =
     let lines = c .before .before in
-    let n = c .before .before .before .before .before .before .before .before .before .before .before .before .before .args .counts in
-    let fit : countsFit single (recordOf n [] [] [] [] [] [] [] []) ≡ true = not-false _ (lines .before .before .if1 .left) in
+    let n = c .before .before .before .before .before .before .before .before .before .before .before .before .before .before .args .counts in
+    let fit : countsFit single (viewOf (recordOf n [] [] [] [] [] [] [] [] [])) ≡ true =
+    not-false _ (lines .before .before .if1 .left) in
     rw (
       c .is-accepted .ensures,
       c .before .lent-refusal .ensures,

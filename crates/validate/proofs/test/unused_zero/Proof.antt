@@ -43,10 +43,11 @@ halves-unused-requires-3 c κs = search needs
 returns : tie.Need-returns
 unfolding unusedZero
 returns c =
-    let owner = c .before .before in
+    let ticks = c .before in
+    let owner = ticks .before .before in
     let code = owner .before .before .before .before in
     rw (
-      c .halves-unused3 .ensures,
+      ticks .halves-unused3 .ensures,
       owner .bytes-unused3 .ensures,
       owner .before .before .bytes-unused2 .ensures,
       code .bytes-unused .ensures,

@@ -2,7 +2,6 @@
 use mathlib.Core.Path.{_∙_}
 use mathlib.Core.List.{[]}
 use borrow.Author.Needs.{needs}
-use native.Mathlib.Omega.{arith}
 use Rattle.policy.proofs.ByTarget.{found-all}
 use Rattle.wholerules.specs.Parts.{partsOf}
 use Rattle.wholerules.proofs.flows.flow_missing.Statement.{statement}
@@ -13,9 +12,10 @@ missing-after-requires c κs = search needs
 
 returns : tie.Need-returns
 returns c =
-    let a = c .before .before .before .before .args in
+    let a = c .before .before .before .before .before .args in
     c .missing-after .ensures
-    ∙ found-all (partsOf (a .segments) (a .partitions) 0 [] (a .save .now) (a .rights .now) (a .flows .now))
+    ∙ found-all
+    (partsOf (a .segments) (a .partitions) 0 [] (a .save .now) (a .reads .now) (a .writes .now) (a .sources .now))
 
 pub flow-missing-spec : {M : Type 1} → statement M
 flow-missing-spec = tie.close (tie.spec missing-after-requires returns)

@@ -1,35 +1,56 @@
 -- The loop carries what has been found: the invariant is the definition's value after the targets before t.
 use Prim.Native.Nat.{_-_, _≤_}
-use borrow.Author.Needs.{needs}
 use mathlib.Core.Path.{_≡_, refl, _∙_}
 use mathlib.Core.List.{[]}
 use native.Mathlib.Omega.{arith}
+use borrow.Author.Needs.{needs}
 use Rattle.policy.specs.ByTarget.{foundAfter}
 use Rattle.policy.proofs.ByTarget.{found-next}
 use Rattle.wholerules.specs.Parts.{partsOf}
-use Rattle.wholerules.proofs.Laws.Sources.{targets-told}
+use Rattle.wholerules.proofs.Laws.Sources.{target-told}
 use Rattle.wholerules.proofs.flows.missing_after.Statement.{statement}
 use Rattle.wholerules.proofs.flows.missing_after.Tie as tie
 
 abbrev Inv-loop : tie.InvT-loop
-Inv-loop save rights flows segments partitions targets masks found₀ t₀ found t =
-    (t ≤ targets) × (found ≡ foundAfter (partsOf segments partitions 0 [] save rights flows) t)
+Inv-loop save reads writes sources segments partitions targets reached written found₀ t₀ found t =
+    (t ≤ targets) × (found ≡ foundAfter (partsOf segments partitions 0 [] save reads writes sources) t)
 
 abbrev μ-loop : tie.MeasureT-loop
-μ-loop save rights flows segments partitions targets masks found₀ t₀ found t = targets - t
+μ-loop save reads writes sources segments partitions targets reached written found₀ t₀ found t = targets - t
 
-read-masks-requires : tie.Need-read-masks-requires Inv-loop μ-loop
-read-masks-requires c κs = search needs
+reached-by-requires : tie.Need-reached-by-requires Inv-loop μ-loop
+reached-by-requires c κs = search needs
+
+reached-by-requires-2 : tie.Need-reached-by-requires-2 Inv-loop μ-loop
+reached-by-requires-2 c κs = search needs
 
 loop-holds : tie.Need-loop-holds Inv-loop μ-loop
 unfolding foundAfter
 loop-holds c = (omega arith, refl)
 
-sources-mask-requires : tie.Need-sources-mask-requires Inv-loop μ-loop
-sources-mask-requires c κs = search needs
+slice-aggregate-asked-into : tie.Need-slice-aggregate-asked-into Inv-loop μ-loop
+slice-aggregate-asked-into c = search needs
 
-target-lacks-requires : tie.Need-target-lacks-requires Inv-loop μ-loop
-target-lacks-requires c κs = search needs
+slice-aggregate-asked-into-2 : tie.Need-slice-aggregate-asked-into-2 Inv-loop μ-loop
+slice-aggregate-asked-into-2 c = search needs
+
+asked-into-requires : tie.Need-asked-into-requires Inv-loop μ-loop
+asked-into-requires c κs = search needs
+
+cast-mask-at : tie.Need-cast-mask-at Inv-loop μ-loop
+cast-mask-at c = search needs
+
+mask-at-requires : tie.Need-mask-at-requires Inv-loop μ-loop
+mask-at-requires c κs = search needs
+
+cast-worth : tie.Need-cast-worth Inv-loop μ-loop
+cast-worth c = search needs
+
+worth-requires : tie.Need-worth-requires Inv-loop μ-loop
+worth-requires c κs = search needs
+
+within-requires : tie.Need-within-requires Inv-loop μ-loop
+within-requires c κs = search needs
 
 add-t : tie.Need-add-t Inv-loop μ-loop
 add-t c = search needs
@@ -39,20 +60,20 @@ loop-less c = search needs
 
 loop-again : tie.Need-loop-again Inv-loop μ-loop
 loop-again c =
-    let l = c .before .before .before in
-    let a = l .before .before .before .before .before .args in
-    let v = partsOf (a .segments) (a .partitions) 0 [] (a .save .now) (a .rights .now) (a .flows .now) in (
+    let l = c .before .before .before .before .before .before .before in
+    let a = l .before .before .before .before .before .before .before .args in (
       omega arith,
-      found-next v (l .loop .t) _ _ (l .loop .inv .1)
-          (targets-told v (l .loop .t) (l .before .read-masks .result) _ _ (l .before .read-masks .ensures) (c .before .sources-mask .ensures)
-          (c .target-lacks .ensures)),
+      found-next (partsOf (a .segments) (a .partitions) 0 [] (a .save .now) (a .reads .now) (a .writes .now) (a .sources .now)) (l .loop .t) _ _
+          (l .loop .inv .1)
+          (rw (c .within .ensures, c .before .worth .ensures, c .before .before .mask-at .ensures, c .before .before .before .asked-into .ensures)
+          (target-told (a .segments) (a .partitions) (a .save .now) (a .reads .now) (a .writes .now) (a .sources .now) _ _
+          (l .before .before .reached-by .ensures) (l .before .reached-by2 .ensures) _ (omega arith))),
     )
 
 returns : tie.Need-returns Inv-loop μ-loop
 returns c =
     let l = c .before in
-    let a = l .before .before .before .before .before .args in
-    let q : l .loop .t ≡ a .targets = omega arith in
+    let q : l .loop .t ≡ l .before .before .before .before .before .before .before .args .targets = omega arith in
     l .loop .inv .1 ∙ rw q
 
 pub missing-after-spec : {M : Type 1} → statement M
@@ -61,10 +82,17 @@ missing-after-spec =
     (tie.spec
     Inv-loop
     μ-loop
-    read-masks-requires
+    reached-by-requires
+    reached-by-requires-2
     loop-holds
-    sources-mask-requires
-    target-lacks-requires
+    slice-aggregate-asked-into
+    slice-aggregate-asked-into-2
+    asked-into-requires
+    cast-mask-at
+    mask-at-requires
+    cast-worth
+    worth-requires
+    within-requires
     add-t
     loop-less
     loop-again

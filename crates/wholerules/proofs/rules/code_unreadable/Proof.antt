@@ -10,10 +10,10 @@ use Rattle.wholerules.proofs.rules.code_unreadable.Statement.{statement
 use Rattle.wholerules.proofs.rules.code_unreadable.Tie as tie
 
 abbrev Inv-loop : tie.InvT-loop
-Inv-loop code rights partitions p₀ p = let v = partsOf 0 0 0 code [] rights [] in Searched partitions (λ q. not (v .reads q (v .code q))) p
+Inv-loop code reads partitions p₀ p = let v = partsOf 0 0 0 code [] reads [] [] in Searched partitions (λ q. not (v .reads q (v .code q))) p
 
 abbrev μ-loop : tie.MeasureT-loop
-μ-loop code rights partitions p₀ p = partitions - p
+μ-loop code reads partitions p₀ p = partitions - p
 
 loop-holds : tie.Need-loop-holds Inv-loop μ-loop
 loop-holds c = search-none _ _
@@ -24,15 +24,22 @@ cast-byte-at c = search needs
 byte-at-requires : tie.Need-byte-at-requires Inv-loop μ-loop
 byte-at-requires c κs = search needs
 
-pair-at-requires : tie.Need-pair-at-requires Inv-loop μ-loop
-pair-at-requires c κs = search needs
+cast-mask-at : tie.Need-cast-mask-at Inv-loop μ-loop
+cast-mask-at c = search needs
 
-gives-read-requires : tie.Need-gives-read-requires Inv-loop μ-loop
-gives-read-requires c κs = search needs
+mask-at-requires : tie.Need-mask-at-requires Inv-loop μ-loop
+mask-at-requires c κs = search needs
+
+bit-at-requires : tie.Need-bit-at-requires Inv-loop μ-loop
+bit-at-requires c κs = search needs
 
 returns : tie.Need-returns Inv-loop μ-loop
 unfolding codeUnreadable
-returns c = search-found _ _ _ _ (c .before .before .before .before .loop-test .taken) (rw (c .before .gives-read .ensures, c .before .before .pair-at .ensures, c .before .before .before .byte-at .ensures)) (c .if1 .taken)
+returns c =
+    search-found _ _ _ _
+    (c .before .before .before .before .loop-test .taken)
+    (rw (c .before .bit-at .ensures, c .before .before .mask-at .ensures, c .before .before .before .byte-at .ensures))
+    (c .if1 .taken)
 
 add-p : tie.Need-add-p Inv-loop μ-loop
 add-p c = search needs
@@ -43,7 +50,11 @@ loop-less c = search needs
 loop-again : tie.Need-loop-again Inv-loop μ-loop
 loop-again c =
     let l = c .before .before .before .before in
-    search-more _ _ _ _ (l .before .loop .inv) (l .loop-test .taken) (rw (c .before .gives-read .ensures, c .before .before .pair-at .ensures, c .before .before .before .byte-at .ensures)) (c .if1 .left)
+    search-more _ _ _ _
+    (l .before .loop .inv)
+    (l .loop-test .taken)
+    (rw (c .before .bit-at .ensures, c .before .before .mask-at .ensures, c .before .before .before .byte-at .ensures))
+    (c .if1 .left)
 
 returns-2 : tie.Need-returns-2 Inv-loop μ-loop
 unfolding codeUnreadable
@@ -58,8 +69,9 @@ code-unreadable-spec =
     loop-holds
     cast-byte-at
     byte-at-requires
-    pair-at-requires
-    gives-read-requires
+    cast-mask-at
+    mask-at-requires
+    bit-at-requires
     returns
     add-p
     loop-less

@@ -1,0 +1,2 @@
+-- Laws of masks, and of widening.
+pub mod Laws

@@ -1,0 +1,2 @@
+-- Masks of bits.
+pub mod Masks

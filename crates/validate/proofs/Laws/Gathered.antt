@@ -1,0 +1,135 @@
+-- The bits of several masks at once: a bit of one is a bit of all together, and each of those is one of some mask.
+use Prim.Native.Nat.{ℕ, zero, suc, _+_, _^_, _<_, _≤_}
+use mathlib.Core.Path.{_≡_, refl, sym, _∙_, ap}
+use mathlib.Core.Bool.{Bool, true, false, cond, _&&_, _||_, or-false, true≢false}
+use mathlib.Core.List.{List}
+use native.Mathlib.Nat.{lt-of-le-of-lt}
+use native.Mathlib.Numerals.{add-one}
+use native.Mathlib.Omega.{arith}
+use native.Mathlib.Decide.{decLt}
+use borrow.Author.Tests.{eq-eqb, eqb-true, le-leb, lt-leb, leb-true}
+use lib.Bits.{bitAnd, bitOr, and-le-l, or-lt}
+use lib.Dec.{leb}
+use lib.ListN.{length, getD}
+use lib.Pow.{pow-pos}
+use Rattle.bits.specs.Masks.{AllUnder, has}
+use Rattle.bits.proofs.Laws.Masks.{has-and, has-none, has-or, masks-same, within-at, within-of}
+use Rattle.policy.specs.Below.{someBelow}
+use Rattle.policy.proofs.Laws.Below.{some-at, some-found}
+use Rattle.policy.proofs.Laws.Bools.{and-left, and-right, not-so}
+use Rattle.policy.proofs.Laws.Tests.{parts}
+use Rattle.validate.specs.Masks.{bitsFit, gathered}
+
+module _ (masks : List ℕ) (from : ℕ) where
+  pub gather-none : (to : ℕ) → to ≤ from → 0 ≡ gathered masks from to
+  unfolding gathered
+  gather-none zero l = refl
+  gather-none (suc i) l = gather-none i (omega arith) ∙ rw (lt-leb from i (omega arith))
+
+  pub gather-more : (i used : ℕ) → from ≤ i → used ≡ gathered masks from i → bitOr used (getD masks i 0) ≡ gathered masks from (i + 1)
+  unfolding gathered
+  gather-more i used l e = rw (add-one, le-leb from i l, e)
+
+  hasIn : ℕ → ℕ → Bool
+  hasIn s i = leb from i && has (getD masks i 0) s
+
+  has-gathered : (to s : ℕ) → has (gathered masks from to) s ≡ someBelow to (hasIn s)
+  unfolding gathered someBelow hasIn
+  has-gathered zero s = has-none s
+  has-gathered (suc i) s = go (leb from i) (has-gathered i s)
+    where
+      go : (b : Bool) → has (gathered masks from i) s ≡ someBelow i (hasIn s) →
+          has (cond b (bitOr (gathered masks from i) (getD masks i 0)) (gathered masks from i)) s
+          ≡ someBelow i (hasIn s) || b && has (getD masks i 0) s
+      go true e = has-or (gathered masks from i) (getD masks i 0) s ∙ rw e
+      go false e = e ∙ sym (or-false (someBelow i (hasIn s)))
+
+  gather-under : (w : ℕ) → AllUnder w masks → (to : ℕ) → gathered masks from to < 2 ^ w
+  unfolding gathered
+  gather-under w u zero = pow-pos w
+  gather-under w u (suc i) = go (leb from i) (gather-under w u i)
+    where
+      go : (b : Bool) → gathered masks from i < 2 ^ w →
+          cond b (bitOr (gathered masks from i) (getD masks i 0)) (gathered masks from i) < 2 ^ w
+      go true l = or-lt w (gathered masks from i) (getD masks i 0) l (u i)
+      go false l = l
+
+  gather-in : (to i s : ℕ) → from ≤ i → i < to → has (getD masks i 0) s ≡ true → has (gathered masks from to) s ≡ true
+  unfolding hasIn
+  gather-in to i s l m h = has-gathered to s ∙ some-found (hasIn s) to i m (rw (le-leb from i l, h))
+
+  -- What holds of each place whose mask has the bit holds where they have it together.
+  gather-out : (to s : ℕ) (P : Type 0) → ((i : ℕ) → from ≤ i → i < to → has (getD masks i 0) s ≡ true → P) →
+      has (gathered masks from to) s ≡ true → P
+  unfolding hasIn
+  gather-out to s P f h =
+      let a = some-at (hasIn s) to (sym (has-gathered to s) ∙ h) in
+      f (a .number)
+      (leb-true from (a .number) (and-left (leb from (a .number)) (has (getD masks (a .number) 0) s) (a .passes)))
+      (a .below)
+      (and-right (leb from (a .number)) (has (getD masks (a .number) 0) s) (a .passes))
+
+-- A mask without bits is 0.
+none-zero : (w m : ℕ) → m < 2 ^ w → ((s : ℕ) → s < w → has m s ≡ true → ⊥) → m ≡ 0
+none-zero w m l h = masks-same w m 0 l (pow-pos w) (λ s k. not-so (has m s) (h s k) ∙ sym (has-none s))
+
+-- A bit that stands where it may.
+pub record Allowed (n there barred i s : ℕ) : Type 0 where
+  pub among : i < n
+  pub stands : has there s ≡ true
+  pub free : has barred s ≡ false
+
+module _ (masks : List ℕ) (n there barred : ℕ) where
+  abbrev used : ℕ
+  used = gathered masks 0 n
+
+  abbrev past : ℕ
+  past = gathered masks n (length masks)
+
+  pub fit-at : bitsFit masks n there barred ≡ true →
+      (i s : ℕ) → i < length masks → has (getD masks i 0) s ≡ true → Allowed n there barred i s
+  unfolding bitsFit
+  fit-at h i s l b = go (decLt i n)
+    where
+      go : Dec (i < n) → Allowed n there barred i s
+      go (yes m) =
+          let in-used = gather-in masks 0 n i s (omega arith) m b in
+          let none : bitAnd used barred ≡ 0 = eqb-true (bitAnd used barred) 0 (search parts) in
+          record {
+            among = m;
+            stands = within-at used there (eqb-true (bitAnd used there) used (search parts)) s in-used;
+            free =
+                sym (ap (λ (x : Bool). x && has barred s) in-used)
+                ∙ sym (has-and used barred s)
+                ∙ ap (λ (k : ℕ). has k s) none
+                ∙ has-none s;
+          }
+      go (no m) =
+          let zero-past : past ≡ 0 = eqb-true past 0 (search parts) in
+          let in-past = gather-in masks n (length masks) i s (omega arith) l b in
+          absurd (true≢false (sym in-past ∙ ap (λ (k : ℕ). has k s) zero-past ∙ has-none s))
+
+  pub fit-of : (w : ℕ) → AllUnder w masks → n ≤ length masks →
+      ((i s : ℕ) → i < length masks → s < w → has (getD masks i 0) s ≡ true → Allowed n there barred i s) →
+      bitsFit masks n there barred ≡ true
+  unfolding bitsFit
+  fit-of w u k h =
+      rw (
+        eq-eqb (bitAnd used there) used
+            (within-of w used there under-used (λ s l. gather-out masks 0 n s _ (λ i a b c. h i s (omega arith) l c .stands))),
+        eq-eqb (bitAnd used barred) 0 (none-zero w (bitAnd used barred) (lt-of-le-of-lt (and-le-l used barred) under-used) not-barred),
+        eq-eqb past 0 (none-zero w past (gather-under masks n w u (length masks)) none-past),
+      )
+    where
+      under-used : used < 2 ^ w
+      under-used = gather-under masks 0 w u n
+
+      not-barred : (s : ℕ) → s < w → has (bitAnd used barred) s ≡ true → ⊥
+      not-barred s l e =
+          let both = sym (has-and used barred s) ∙ e in
+          true≢false
+          (sym (and-right (has used s) (has barred s) both)
+          ∙ gather-out masks 0 n s _ (λ i a b c. h i s (omega arith) l c .free) (and-left (has used s) (has barred s) both))
+
+      none-past : (s : ℕ) → s < w → has past s ≡ true → ⊥
+      none-past s l e = gather-out masks n (length masks) s ⊥ (λ i a b c. let m = h i s b l c .among in omega arith) e

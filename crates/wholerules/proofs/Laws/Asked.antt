@@ -1,0 +1,67 @@
+-- The masks of rule 8 bit by bit: what a partition reaches is its save segment and what its mask gives, and what is asked for into t is
+-- what some partition reaches that may write t.
+use Prim.Native.Nat.{ℕ, zero, suc, _+_, _^_, _<_, _≤_}
+use mathlib.Core.Path.{_≡_, refl, _∙_}
+use mathlib.Core.Bool.{Bool, true, false, cond, _&&_, _||_, and-true}
+use mathlib.Core.List.{List}
+use native.Mathlib.Nat.{lt-of-le-of-lt}
+use native.Mathlib.Numerals.{add-one}
+use native.Mathlib.Omega.{arith}
+use lib.Bits.{bitAnd, bitOr, and-le-r, or-lt}
+use lib.Dec.{eqb}
+use lib.ListN.{getD}
+use lib.Pow.{pow-pos}
+use Rattle.bits.specs.Masks.{has, maskOf}
+use Rattle.bits.proofs.Laws.Masks.{has-and, has-none, has-or, mask-under}
+use Rattle.bits.proofs.Laws.Sets.{has-below, mask-is}
+use Rattle.policy.specs.Below.{someBelow}
+use Rattle.wholerules.specs.Masks.{askedInto}
+
+module _ (n own there byte : ℕ) (few : n ≤ 64) (o : own ≡ maskOf 64 (λ u. eqb u byte)) (t : there ≡ maskOf n (λ s. true)) where
+  pub reached-is : (mask k m : ℕ) → byte ≡ k → mask ≡ m →
+      bitAnd (bitOr own mask) there ≡ maskOf n (λ s. eqb s k || has m s)
+  reached-is mask k m b e =
+      mask-is n (bitAnd (bitOr own mask) there) (λ s. eqb s k || has m s)
+      (lt-of-le-of-lt (and-le-r (bitOr own mask) there) (rw t (mask-under (λ s. true) n)))
+      (λ s l.
+      has-and (bitOr own mask) there s
+      ∙ rw (
+        has-or own mask s,
+        o,
+        t,
+        has-below (λ u. eqb u byte) 64 s (omega arith),
+        has-below (λ s. true) n s l,
+        and-true,
+        b,
+        e,
+      ))
+
+module _ (reached written : List ℕ) (t : ℕ) where
+  pub asked-more : (p : ℕ) (asked more : ℕ) → asked ≡ askedInto reached written t p →
+      more ≡ cond (has (getD written p 0) t) (getD reached p 0) 0 → bitOr asked more ≡ askedInto reached written t (p + 1)
+  unfolding askedInto
+  asked-more p asked more a m = rw (add-one, a, m)
+
+  has-cond : (b : Bool) (m s : ℕ) → has (cond b m 0) s ≡ b && has m s
+  has-cond true m s = refl
+  has-cond false m s = has-none s
+
+  pub has-asked : (n s : ℕ) →
+      has (askedInto reached written t n) s ≡ someBelow n (λ p. has (getD written p 0) t && has (getD reached p 0) s)
+  unfolding askedInto someBelow
+  has-asked zero s = has-none s
+  has-asked (suc p) s =
+      has-or (askedInto reached written t p) (cond (has (getD written p 0) t) (getD reached p 0) 0) s
+      ∙ rw (has-asked p s, has-cond (has (getD written p 0) t) (getD reached p 0) s)
+
+  pub asked-under : (w n : ℕ) → ((p : ℕ) → p < n → getD reached p 0 < 2 ^ w) → askedInto reached written t n < 2 ^ w
+  unfolding askedInto
+  asked-under w zero h = pow-pos w
+  asked-under w (suc p) h =
+      or-lt w (askedInto reached written t p) (cond (has (getD written p 0) t) (getD reached p 0) 0)
+      (asked-under w p (λ q l. h q (omega arith)))
+      (go (has (getD written p 0) t))
+    where
+      go : (b : Bool) → cond b (getD reached p 0) 0 < 2 ^ w
+      go true = h p (omega arith)
+      go false = pow-pos w

@@ -1,0 +1,65 @@
+//! The rows of the benchmark.
+
+use crate::timed::Timed;
+use separation::boundary::MEMORY;
+use separation::generate::policies::{full_in_hexadecimal, longest};
+use separation::generate::texts::{hexadecimal_text_of, text_of};
+use separation::generate::workloads::{copy, few_flows, least, policy_of, programs, COMPUTE};
+
+pub const DEMONSTRATION: &[u8] = include_bytes!("../../../../../policies/demonstration.policy");
+
+/// The ticks of a Run whose ticks are measured.
+const RUN: u32 = 10_000;
+
+pub struct Case {
+    pub name: &'static str,
+    /// The most that the ratio to the tuned kernel should be.
+    pub aim: f64,
+    /// The calls of one measurement.
+    pub calls: u32,
+    /// What a call has of what the row is about: ticks of a Run, or 1.
+    pub parts: u32,
+    pub time: fn(&dyn Timed, u32) -> f64,
+}
+
+const fn tick(name: &'static str, time: fn(&dyn Timed, u32) -> f64) -> Case {
+    Case { name, aim: 1.0, calls: 4, parts: RUN, time }
+}
+
+const fn call(name: &'static str, calls: u32, time: fn(&dyn Timed, u32) -> f64) -> Case {
+    Case { name, aim: 2.0, calls, parts: 1, time }
+}
+
+/// Its calls time one another, so that its instructions are not counted.
+pub const INTERRUPTS: &str = "tick, interrupts (taken and back in turn)";
+
+pub const CASES: [Case; 19] = [
+    tick("tick, compute loop", |kernel, calls| {
+        let (policy, memory) = programs(&COMPUTE, &COMPUTE);
+        kernel.run(&policy, &memory, RUN, calls)
+    }),
+    tick("tick, load-and-store copy loop", |kernel, calls| {
+        let (policy, memory) = programs(&copy(5, 4), &copy(4, 5));
+        kernel.run(&policy, &memory, RUN, calls)
+    }),
+    tick("tick, idle (one halted, one waiting)", |kernel, calls| {
+        let (policy, memory) = programs(&[[0, 0, 0, 0]], &[[10, 0, 0, 0]]);
+        kernel.run(&policy, &memory, RUN, calls)
+    }),
+    Case { name: INTERRUPTS, aim: 1.0, calls: 200, parts: 128, time: |kernel, calls| kernel.interrupts(calls) },
+    call("soundness, least record (3/1/1)", 300, |kernel, calls| kernel.sound(&least(), calls)),
+    call("soundness, demonstration (5/2/2)", 300, |kernel, calls| kernel.sound(&policy_of(DEMONSTRATION), calls)),
+    call("soundness, largest record (32/8/32)", 100, |kernel, calls| kernel.sound(&longest(), calls)),
+    call("soundness, 32/8/32 with few flows", 100, |kernel, calls| kernel.sound(&few_flows(), calls)),
+    call("Pend, demonstration", 300, |kernel, calls| kernel.pend(&policy_of(DEMONSTRATION), calls)),
+    call("Pend, largest record", 100, |kernel, calls| kernel.pend(&longest(), calls)),
+    call("Start, demonstration", 300, |kernel, calls| kernel.start(&policy_of(DEMONSTRATION), calls)),
+    call("Start, largest record", 100, |kernel, calls| kernel.start(&longest(), calls)),
+    call("Run of 0 ticks, demonstration", 300, |kernel, calls| kernel.run(&policy_of(DEMONSTRATION), &[0; MEMORY], 0, calls)),
+    call("Run of 0 ticks, largest record", 100, |kernel, calls| kernel.run(&longest(), &[0; MEMORY], 0, calls)),
+    call("Read, demonstration (225 bytes)", 200, |kernel, calls| kernel.read(DEMONSTRATION, calls)),
+    call("Read, 32/8/32 with few flows (1,363 bytes)", 100, |kernel, calls| kernel.read(&text_of(&few_flows()), calls)),
+    call("Read, longest text in decimal (14,143 bytes)", 10, |kernel, calls| kernel.read(&text_of(&longest()), calls)),
+    call("Read, 1,124 lines in decimal (12,293 bytes)", 10, |kernel, calls| kernel.read(&text_of(&full_in_hexadecimal()), calls)),
+    call("Read, the same in hexadecimal (16,384 bytes)", 10, |kernel, calls| kernel.read(&hexadecimal_text_of(&full_in_hexadecimal()), calls)),
+];

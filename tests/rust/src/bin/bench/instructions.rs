@@ -1,0 +1,32 @@
+//! Instructions of one call, or of one tick, by callgrind: what more calls of the same program take, divided by them. So a caller's copy of the record is
+//! counted, and what is done once is not.
+
+use crate::cases::{CASES, INTERRUPTS};
+use std::process::Command;
+
+/// The table of instructions of each kernel.
+pub fn table(kernels: &[&str]) {
+    println!("| what | {} |", kernels.join(" | "));
+    println!("|---|{}", "---:|".repeat(kernels.len()));
+    for (at, case) in CASES.iter().enumerate().filter(|(_, case)| case.name != INTERRUPTS) {
+        print!("| {} |", case.name);
+        for kernel in 0..kernels.len() {
+            let more = collected(at, kernel, 1 + case.calls) - collected(at, kernel, 1);
+            let one = more / f64::from(case.calls * case.parts);
+            let shown = if case.parts == 1 { format!("{one:.0}") } else { format!("{one:.1}") };
+            print!(" {shown} |");
+        }
+        println!();
+    }
+}
+
+/// The instructions of this program when it does nothing but so many calls of a case.
+fn collected(case: usize, kernel: usize, calls: u32) -> f64 {
+    let program = std::env::current_exe().expect("this program has a path");
+    let mut valgrind = Command::new("valgrind");
+    valgrind.args(["--tool=callgrind", "--callgrind-out-file=/dev/null"]).arg(program).arg("--once");
+    let output = valgrind.args([case as u32, kernel as u32, calls].map(|number| number.to_string())).output().expect("valgrind starts");
+    let said = String::from_utf8_lossy(&output.stderr);
+    let count = said.lines().find_map(|line| line.split("Collected : ").nth(1)?.trim().parse().ok());
+    count.unwrap_or_else(|| panic!("valgrind said no number:\n{said}"))
+}

@@ -1,0 +1,69 @@
+//! The policies and programs of the benchmark.
+
+use super::policies::longest;
+use crate::boundary::{Policy, MEMORY};
+use crate::reference;
+
+/// Two partitions in slots of 100 ticks; each may write a segment of its own, and read one of the other's.
+const TWO: &str = "segment\t0\t0\t64\nsegment\t1\t64\t44\nsegment\t2\t128\t64\nsegment\t3\t192\t44\nsegment\t4\t256\t256\nsegment\t5\t512\t256\n\
+partition\t0\t0\t1\npartition\t1\t2\t3\nright\t0\t0\tr\nright\t0\t4\trw\nright\t0\t5\tr\nright\t1\t2\tr\nright\t1\t4\tr\nright\t1\t5\trw\n\
+flow\t0\t1\nflow\t0\t4\nflow\t1\t4\nflow\t2\t3\nflow\t2\t5\nflow\t3\t5\nflow\t4\t1\nflow\t4\t3\nflow\t4\t5\nflow\t5\t1\nflow\t5\t3\nflow\t5\t4\n\
+slot\t0\t100\nslot\t1\t100\n";
+
+/// Three segments, one partition, one slot.
+const LEAST: &str = "segment\t0\t0\t64\nsegment\t1\t64\t44\nsegment\t2\t128\t16\npartition\t0\t0\t1\nright\t0\t0\tr\nflow\t0\t1\nslot\t0\t1\n";
+
+/// add, xor, shift, sub, and, jump, after two sets.
+pub const COMPUTE: [[u8; 4]; 8] = [[1, 1, 1, 0], [1, 2, 3, 0], [2, 0, 0, 1], [5, 3, 3, 0], [6, 4, 3, 2], [3, 5, 5, 1], [4, 6, 5, 3], [9, 1, 8, 0]];
+
+/// 256 bytes from one segment into another, over and over: sub, and, load, store, jump.
+pub fn copy(from: u8, to: u8) -> Vec<[u8; 4]> {
+    vec![[1, 1, 1, 0], [1, 2, 255, 0], [3, 0, 0, 1], [4, 0, 0, 2], [7, 3, 0, from], [8, 3, 0, to], [9, 1, 8, 0]]
+}
+
+pub fn policy_of(text: &[u8]) -> Policy {
+    let answer = reference::read(text);
+    assert_eq!(answer.number, 0);
+    answer.policy
+}
+
+pub fn least() -> Policy {
+    policy_of(LEAST.as_bytes())
+}
+
+/// 32 segments, 8 partitions and 32 slots, and one right and one flow for each partition: 88 lines.
+pub fn few_flows() -> Policy {
+    let mut policy = longest();
+    (policy.reads, policy.writes, policy.sources) = ([0; 8], [0; 8], [0; 32]);
+    for p in 0..8 {
+        policy.set_right(p, policy.code[p] as usize, 1);
+        policy.set_flow(policy.code[p] as usize, policy.save[p] as usize, true);
+    }
+    policy
+}
+
+/// Eight partitions in slots of 16 ticks, for 8 interrupts each.
+pub fn eight() -> Policy {
+    let mut text = String::new();
+    (0..8).for_each(|p| text += &format!("segment\t{}\t{}\t44\nsegment\t{}\t{}\t16\n", 2 * p, 64 * p, 2 * p + 1, 64 * p + 44));
+    (0..8).for_each(|p| text += &format!("partition\t{p}\t{}\t{}\n", 2 * p + 1, 2 * p));
+    (0..8).for_each(|p| text += &format!("right\t{p}\t{}\tr\n", 2 * p + 1));
+    (0..8).for_each(|p| text += &format!("flow\t{}\t{}\n", 2 * p + 1, 2 * p));
+    (0..8).for_each(|p| text += &format!("slot\t{p}\t16\n"));
+    policy_of(text.as_bytes())
+}
+
+/// Puts a program into a segment.
+pub fn put(memory: &mut [u8], policy: &Policy, segment: usize, program: &[[u8; 4]]) {
+    let base = policy.base[segment] as usize;
+    memory[base..base + 4 * program.len()].copy_from_slice(&program.concat());
+}
+
+/// Two partitions with these programs.
+pub fn programs(first: &[[u8; 4]], second: &[[u8; 4]]) -> (Policy, Vec<u8>) {
+    let policy = policy_of(TWO.as_bytes());
+    let mut memory = vec![0; MEMORY];
+    put(&mut memory, &policy, 0, first);
+    put(&mut memory, &policy, 2, second);
+    (policy, memory)
+}
