@@ -18,14 +18,7 @@ pub fn has_bit(mask: u64, s: u32) -> bool
     (mask >> s) % 2 == 1
 }
 
-pub fn with_bit(mask: u64, s: u32) -> u64
-    requires { ⌜ s < 64 ⌝ }
-    ensures { λ r. ⌜ r ≡ withBit mask s ⌝ }
-{
-    mask | worth(s)
-}
-
-// The same of a mask of 32 bits.
+// A mask of 32 bits with one bit more.
 pub fn with_low_bit(mask: u32, s: u32) -> u32
     requires { ⌜ s < 32 ⌝ }
     ensures { λ r. ⌜ r ≡ withBit mask s ⌝ }

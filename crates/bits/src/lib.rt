@@ -5,7 +5,6 @@ mod set;
 mod wide;
 
 pub use bit::has_bit;
-pub use bit::with_bit;
 pub use bit::with_low_bit;
 pub use bit::worth;
 pub use set::bit_at;

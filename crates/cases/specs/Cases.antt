@@ -49,7 +49,7 @@ policy = under single (readOf single (joined demonstration) .tables)
 -- The state after a Start and a Run.
 abbrev pub ran : List Bytes → List Bytes → ℕ → State
 ran before after n =
-    afterRun policy (stateOf (with (afterStart policy (with (replicate 16384 0) before)) after) (placeOf 0 0)) n
+    afterRun policy (stateOf (with (afterStart policy (with (replicate (single .memory) 0) before)) after) (placeOf 0 0)) n
 
 -- Whether two records have the same entries.
 abbrev pub sameTables : Tables → Tables → Bool

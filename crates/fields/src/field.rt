@@ -6,6 +6,7 @@ ghost use mathlib.Core.Path.{_≡_};
 ghost use Prim.Native.Nat.{_<_};
 ghost use Rattle.text.specs.Places.{upTo};
 ghost use Rattle.text.specs.Readers.{numberRead, lettersRead, endRead};
+use crate::scan::stands;
 use text::Cursor;
 use text::EndRead;
 use text::Number;
@@ -47,18 +48,17 @@ pub fn read_number(text: &[u8], c: Cursor) -> NumberRead
     }
 }
 
-// The next field, read as the letters of a right.
+// The next field, read as the letters of a right: r is 1, w is 2, rw is 3. No scan for the field's end: a number is told
+// from letters by its first byte.
 pub fn read_letters(text: &[u8], c: Cursor) -> NumberRead
     ensures { λ r. ⌜ r ≡ lettersRead (upTo (now (text .entry)) (c .at)) c ⌝ }
 {
+    let at = c.at;
+    let line = c.line;
     let none = NumberRead {
         number: Number::Malformed,
-        next: Cursor {
-            at: c.at,
-            line: c.line,
-        },
+        next: Cursor { at, line },
     };
-    let at = c.at;
     if text.len() <= at {
         return none;
     }
@@ -66,18 +66,25 @@ pub fn read_letters(text: &[u8], c: Cursor) -> NumberRead
         return none;
     }
     let from = at + 1;
-    let end = crate::scan::field_end(text, from);
-    let letters = crate::scan::letters_of(&text[from..end]);
-    match letters {
-        Number::Value(mode) => NumberRead {
-            number: Number::Value(mode),
-            next: Cursor {
-                at: end,
-                line: c.line,
-            },
-        },
-        Number::Malformed => none,
+    if stands(text, from, b"r") {
+        return NumberRead {
+            number: Number::Value(1),
+            next: Cursor { at: from + 1, line },
+        };
     }
+    if stands(text, from, b"w") {
+        return NumberRead {
+            number: Number::Value(2),
+            next: Cursor { at: from + 1, line },
+        };
+    }
+    if stands(text, from, b"rw") {
+        return NumberRead {
+            number: Number::Value(3),
+            next: Cursor { at: from + 2, line },
+        };
+    }
+    none
 }
 
 // The line end at the place, if one stands there.

@@ -1,11 +1,12 @@
-// Single fields: where one ends, whether it is a given word, and what letters it has.
+// Single fields: where one ends, and whether it is a given word.
+ghost use Prim.Native.Nat.{_≤_};
+ghost use mathlib.Core.Bool.{true};
 ghost use mathlib.Core.Path.{_≡_};
 ghost use lib.Dec.{eqb};
+ghost use lib.ListN.{length};
 ghost use Rattle.text.specs.Bytes.{same as sameBytes};
 ghost use Rattle.text.specs.Cut.{tab};
-ghost use Rattle.text.specs.Number.{letters};
-ghost use Rattle.text.specs.Places.{upTo, endAt};
-use text::Number;
+ghost use Rattle.text.specs.Places.{upTo, unparted, pieceAt, endAt};
 
 // The end of the field from a place on: a tab, a line end or the end of the text.
 pub(crate) fn field_end(text: &[u8], from: usize) -> usize
@@ -50,18 +51,19 @@ pub(crate) fn same(a: &[u8], b: &[u8]) -> bool
     true
 }
 
-// The letters of a right: r is 1, w is 2, rw is 3.
-pub(crate) fn letters_of(field: &[u8]) -> Number
-    ensures { λ r. ⌜ r ≡ letters (now (field .entry)) ⌝ }
+// Whether the field at a place is this word: the word's bytes stand there, and the field ends after them. No scan for
+// the field's end, and a branch between the two tests: most words that are tried fail the first.
+pub(crate) fn stands(text: &[u8], at: usize, word: &[u8]) -> bool
+    requires { ⌜ (at ≤ length (now text)) × (unparted (now word) ≡ true) ⌝ }
+    ensures { λ r. ⌜ r ≡ sameBytes (pieceAt tab (upTo (now (text .entry)) at) at) (now (word .entry)) ⌝ }
 {
-    if same(field, b"r") {
-        return Number::Value(1);
+    let n = word.len();
+    if text.len() - at < n {
+        return false;
     }
-    if same(field, b"w") {
-        return Number::Value(2);
+    let end = at + n;
+    if !same(&text[at..end], word) {
+        return false;
     }
-    if same(field, b"rw") {
-        return Number::Value(3);
-    }
-    Number::Malformed
+    ends(text, end)
 }

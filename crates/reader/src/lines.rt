@@ -4,10 +4,10 @@ ghost use mathlib.Core.Path.{_≡_};
 ghost use lib.ListN.{length};
 ghost use Rattle.text.specs.Lines.{linesOf};
 ghost use Rattle.policy.specs.Limits.{single};
-ghost use Rattle.policy.specs.Record.{answerOf, tablesOf};
-ghost use Rattle.policy.specs.Tables.{zeros, viewOf};
+ghost use Rattle.policy.specs.Record.{answerOf};
+ghost use Rattle.policy.specs.Tables.{zeros};
 ghost use Rattle.policy.specs.Draft.{begun};
-ghost use Rattle.policy.specs.Read.{answer, wholeRefusal, readLines};
+ghost use Rattle.policy.specs.Read.{answer, readLines};
 use crate::rights::with_read;
 use crate::rights::with_write;
 use bits::with_low_bit;
@@ -21,7 +21,7 @@ use policy::Reading;
 use policy::Refusal;
 use text::Cursor;
 use text::Line;
-use wholerules::whole_refusal;
+use wholerules::record_refusal;
 
 // A refusal comes with the record of zeros.
 pub(crate) fn refused(refusal: Refusal) -> Reading
@@ -31,18 +31,6 @@ pub(crate) fn refused(refusal: Refusal) -> Reading
         refusal,
         policy: zeros(),
     }
-}
-
-// The answer once all lines are read into the record.
-fn judged(policy: Policy) -> Reading
-    requires { ⌜ (policy .segments ≤ 32) × (policy .partitions ≤ 8) ⌝ }
-    ensures { λ r. ⌜ answerOf r ≡ answer single (wholeRefusal (viewOf (tablesOf policy))) (tablesOf policy) ⌝ }
-{
-    let refusal = whole_refusal(policy);
-    if is_accepted(refusal) {
-        return Reading { refusal, policy };
-    }
-    refused(refusal)
 }
 
 // The answer for a text that is not too long. What a line adds is stored in the loop itself: a record that is handed by
@@ -112,5 +100,18 @@ pub(crate) fn read_lines(text: &[u8]) -> Reading
         before = key_of(line);
         c = read.next;
     }
-    judged(policy)
+    let refusal = record_refusal(
+        policy.segments,
+        policy.partitions,
+        policy.slots,
+        &policy.code,
+        &policy.save,
+        &policy.reads,
+        &policy.writes,
+        &policy.sources,
+    );
+    if is_accepted(refusal) {
+        return Reading { refusal, policy };
+    }
+    refused(refusal)
 }

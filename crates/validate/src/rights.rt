@@ -17,27 +17,28 @@ use bits::has_bit;
 use bits::within;
 use bytes::byte_at;
 
-// The bits that some mask has, from one place to another. No early exit: the compiler then looks at many at once.
-fn bits_from(masks: &[u64], from: usize, to: usize) -> u64
-    requires { ⌜ (from ≤ to) × (to ≤ length (now masks)) ⌝ }
-    ensures { λ r. ⌜ r ≡ gathered (now (masks .entry)) from to ⌝ }
+// The bits that some mask of two arrays has, from one place to another. No early exit: the compiler then looks at many at
+// once.
+fn bits_from<'a>(a: &'a [u64], b: &'a [u64], from: usize, to: usize) -> u64
+    requires { ⌜ (from ≤ to) × (to ≤ length (now a)) × (to ≤ length (now b)) ⌝ }
+    ensures { λ r. ⌜ r ≡ gathered (now (a .entry)) (now (b .entry)) from to ⌝ }
 {
     let mut used: u64 = 0;
     let mut i = from;
     while i < to {
-        used = used | masks[i];
+        used = used | a[i] | b[i];
         i += 1;
     }
     used
 }
 
-// Whether the first n masks have bits that are there and not barred, and the others none.
-fn bits_fit(masks: &[u64], n: u8, there: u64, barred: u64) -> bool
-    requires { ⌜ n ≤ length (now masks) ⌝ }
-    ensures { λ r. ⌜ r ≡ bitsFit (now (masks .entry)) n there barred ⌝ }
+// Whether the first n masks of two arrays have bits that are there and not barred, and the others none.
+fn bits_fit<'a>(a: &'a [u64], b: &'a [u64], n: u8, there: u64, barred: u64) -> bool
+    requires { ⌜ (n ≤ length (now a)) × (length (now a) ≡ length (now b)) ⌝ }
+    ensures { λ r. ⌜ r ≡ bitsFit (now (a .entry)) (now (b .entry)) n there barred ⌝ }
 {
-    let used = bits_from(masks, 0, n as usize);
-    let past = bits_from(masks, n as usize, masks.len());
+    let used = bits_from(a, b, 0, n as usize);
+    let past = bits_from(a, b, n as usize, a.len());
     within(used, there) & ((used & barred) == 0) & (past == 0)
 }
 
@@ -75,7 +76,7 @@ pub(crate) fn rights_good<'a>(
 {
     let there = bits_below(segments);
     let saves = save_bits(save, partitions);
-    bits_fit(reads, partitions, there, saves) & bits_fit(writes, partitions, there, saves)
+    bits_fit(reads, writes, partitions, there, saves)
 }
 
 // Whether no segment is its own source.
@@ -101,5 +102,5 @@ pub(crate) fn flows_good(sources: &[u64], segments: u8) -> bool
         (λ s. eachBelow 32 (goodFlow single (partsOf segments 0 0 [] [] [] [] (now (sources .entry))) s))
         ⌝ }
 {
-    bits_fit(sources, segments, bits_below(segments), 0) & none_own(sources, segments)
+    bits_fit(sources, sources, segments, bits_below(segments), 0) & none_own(sources, segments)
 }

@@ -6,7 +6,8 @@ ghost use Rattle.policy.specs.Limits.{single};
 ghost use Rattle.policy.specs.Record.{tablesOf};
 ghost use Rattle.policy.specs.Tables.{viewOf};
 ghost use Rattle.policy.specs.Sound.{linesHold, soundOf, unusedZero};
-ghost use Rattle.validate.specs.Parts.{MasksFit, entriesSound, recordOf};
+ghost use Rattle.validate.specs.Parts.{MasksFit, Paired, entriesSound, recordOf};
+use crate::arrays::both_unused;
 use crate::arrays::bytes_unused;
 use crate::arrays::halves_unused;
 use crate::entries::partitions_good;
@@ -40,6 +41,7 @@ fn unused_zero<'a>(
     owner: &'a [u8],
     ticks: &'a [u16],
 ) -> bool
+    requires { ⌜ Paired (now base) (now size) (now code) (now save) (now owner) (now ticks) ⌝ }
     ensures { λ r.
         ⌜
         r ≡ unusedZero
@@ -47,12 +49,9 @@ fn unused_zero<'a>(
         (now (save .entry)) (now (owner .entry)) (now (ticks .entry)) [] [] [])
         ⌝ }
 {
-    halves_unused(base, counts.segments as usize)
-        & halves_unused(size, counts.segments as usize)
-        & bytes_unused(code, counts.partitions as usize)
-        & bytes_unused(save, counts.partitions as usize)
-        & bytes_unused(owner, counts.slots as usize)
-        & halves_unused(ticks, counts.slots as usize)
+    halves_unused(base, size, counts.segments as usize)
+        & bytes_unused(code, save, counts.partitions as usize)
+        & both_unused(owner, ticks, counts.slots as usize)
         & (counts.unused == 0)
 }
 
@@ -99,6 +98,7 @@ fn lent_passes<'a>(
     writes: &'a [u64],
     sources: &'a [u64],
 ) -> bool
+    requires { ⌜ Paired (now base) (now size) (now code) (now save) (now owner) (now ticks) ⌝ }
     requires { ⌜ MasksFit (now reads) (now writes) (now sources) ⌝ }
     ensures { λ r.
         ⌜

@@ -18,6 +18,11 @@ abbrev pub AreReached : List ℕ → List ℕ → ℕ → ℕ → List ℕ → T
 AreReached save masks segments partitions list =
     (p : ℕ) → p < partitions → getD list p 0 ≡ maskOf segments (reach save masks p)
 
+-- The bits that some of the first n masks have.
+unfoldable pub joined : List ℕ → ℕ → ℕ
+joined list zero = 0
+joined list (suc n) = bitOr (joined list n) (getD list n 0)
+
 -- The sources that rule 8 asks for into t: what is reached by those of the first partitions that may write t.
 unfoldable pub askedInto : List ℕ → List ℕ → ℕ → ℕ → ℕ
 askedInto reached written t zero = 0

@@ -5,10 +5,9 @@ ghost use mathlib.Core.List.{[]};
 ghost use Rattle.policy.specs.ByTarget.{foundAfter};
 ghost use Rattle.policy.specs.Whole.{flowMissing};
 ghost use Rattle.wholerules.specs.Parts.{partsOf};
-use crate::masks::asked_into;
-use crate::masks::reached_by;
+use crate::masks::reach_all;
+use crate::masks::target_lacks;
 use bits::mask_at;
-use bits::within;
 use bits::worth;
 
 // Whether a line has been found missing after the first `targets` targets. The loop goes on after a finding, so that
@@ -31,14 +30,22 @@ pub(crate) fn missing_after<'a>(
         targets
         ⌝ }
 {
-    let reached = reached_by(save, reads, segments, partitions);
-    let written = reached_by(save, writes, segments, partitions);
+    let mut reached: [u64; 12] = [0; 12];
+    let mut written: [u64; 12] = [0; 12];
+    let all = reach_all(
+        save,
+        reads,
+        writes,
+        segments,
+        partitions,
+        &mut reached,
+        &mut written,
+    );
     let mut found = false;
     let mut t = 0;
     while t < targets {
-        let asked = asked_into(&reached, &written, partitions, t);
         let allowed = mask_at(sources, t as usize) | worth(t as u32);
-        found = found | !within(asked, allowed);
+        found = found | target_lacks(&reached, &written, partitions, t, allowed, all);
         t += 1;
     }
     found

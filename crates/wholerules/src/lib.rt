@@ -5,4 +5,4 @@ mod masks;
 mod rules;
 
 pub use rules::lent_refusal;
-pub use rules::whole_refusal;
+pub use rules::record_refusal;

@@ -1,34 +1,62 @@
 // What partitions reach, and what rule 8 asks for, as masks of segments.
 ghost use Prim.Native.Nat.{_≤_, _<_};
 ghost use mathlib.Core.Path.{_≡_};
-ghost use mathlib.Core.Bool.{cond};
+ghost use mathlib.Core.Bool.{cond, not};
+ghost use lib.Bits.{bitAnd};
+ghost use lib.Dec.{eqb};
 ghost use lib.ListN.{length};
-ghost use Rattle.wholerules.specs.Masks.{AreReached, askedInto};
+ghost use Rattle.wholerules.specs.Masks.{AreReached, askedInto, joined};
 use bits::bit_of;
 use bits::bits_below;
 use bits::has_bit;
 use bits::mask_at;
+use bits::within;
 use bytes::byte_at;
 
-// The segments that each partition reaches: its masks with its save segment, of those that are there.
-pub(crate) fn reached_by<'a>(
+// What some partition reaches by the read masks, and by the write masks.
+pub(crate) struct All {
+    reached: u64,
+    written: u64,
+}
+
+// The segments that each partition reaches by the read masks and by the write masks: its masks with its save segment,
+// of those that are there.
+pub(crate) fn reach_all<'a>(
     save: &'a [u8],
-    masks: &'a [u64],
+    reads: &'a [u64],
+    writes: &'a [u64],
     segments: u8,
     partitions: u8,
-) -> [u64; 12]
-    requires { ⌜ (segments ≤ 64) × (partitions ≤ 12) ⌝ }
-    ensures { λ r. ⌜ AreReached (now (save .entry)) (now (masks .entry)) segments partitions r ⌝ }
+    reached: &mut [u64],
+    written: &mut [u64],
+) -> All
+    requires { ⌜ (segments ≤ 64) × (partitions ≤ length (now reached)) × (partitions ≤ length (now written)) ⌝ }
+    ensures { λ r.
+        ⌜
+        AreReached (now (save .entry)) (now (reads .entry)) segments partitions (now (reached .exit))
+        × AreReached (now (save .entry)) (now (writes .entry)) segments partitions (now (written .exit))
+        × (r .reached ≡ joined (now (reached .exit)) partitions)
+        × (r .written ≡ joined (now (written .exit)) partitions)
+        ⌝ }
 {
     let there = bits_below(segments);
-    let mut reached: [u64; 12] = [0; 12];
+    let mut any_reached: u64 = 0;
+    let mut any_written: u64 = 0;
     let mut p = 0;
     while p < partitions {
         let own = bit_of(byte_at(save, p as usize));
-        reached[p as usize] = (own | mask_at(masks, p as usize)) & there;
+        let reach = (own | mask_at(reads, p as usize)) & there;
+        let write = (own | mask_at(writes, p as usize)) & there;
+        reached[p as usize] = reach;
+        written[p as usize] = write;
+        any_reached = any_reached | reach;
+        any_written = any_written | write;
         p += 1;
     }
-    reached
+    All {
+        reached: any_reached,
+        written: any_written,
+    }
 }
 
 // A value and no branch, so that the compiler looks at many partitions at once.
@@ -39,7 +67,7 @@ fn picked(take: bool, mask: u64) -> u64
 }
 
 // The sources that rule 8 asks for into t: what the partitions reach that may write it. No exit inside.
-pub(crate) fn asked_into<'a>(reached: &'a [u64], written: &'a [u64], partitions: u8, t: u8) -> u64
+fn asked_into<'a>(reached: &'a [u64], written: &'a [u64], partitions: u8, t: u8) -> u64
     requires { ⌜ (partitions ≤ length (now reached)) × (partitions ≤ length (now written)) × (t < 64) ⌝ }
     ensures { λ r. ⌜ r ≡ askedInto (now (reached .entry)) (now (written .entry)) t partitions ⌝ }
 {
@@ -51,4 +79,31 @@ pub(crate) fn asked_into<'a>(reached: &'a [u64], written: &'a [u64], partitions:
         p += 1;
     }
     asked
+}
+
+// Whether some source that rule 8 asks for into t is not allowed. Where all that is reached is allowed, or nobody may
+// write t, none is, and the partitions need not be asked one by one.
+pub(crate) fn target_lacks<'a>(
+    reached: &'a [u64],
+    written: &'a [u64],
+    partitions: u8,
+    t: u8,
+    allowed: u64,
+    all: All,
+) -> bool
+    requires { ⌜ (partitions ≤ length (now reached)) × (partitions ≤ length (now written)) × (t < 64) ⌝ }
+    requires { ⌜ (all .reached ≡ joined (now reached) partitions) × (all .written ≡ joined (now written) partitions) ⌝ }
+    ensures { λ r.
+        ⌜
+        (let asked = askedInto (now (reached .entry)) (now (written .entry)) t partitions in
+        r ≡ not (eqb (bitAnd asked allowed) asked))
+        ⌝ }
+{
+    if within(all.reached, allowed) {
+        return false;
+    }
+    if !has_bit(all.written, t as u32) {
+        return false;
+    }
+    !within(asked_into(reached, written, partitions, t), allowed)
 }

@@ -1,10 +1,9 @@
-// Rules 6 and 7, and the three in their order, over lent arrays and over the record.
+// Rules 6 and 7, and the three in their order, over lent arrays.
 ghost use Prim.Native.Nat.{_≤_};
 ghost use mathlib.Core.Path.{_≡_};
 ghost use mathlib.Core.List.{[]};
+ghost use lib.ListN.{length};
 ghost use Rattle.policy.specs.Read.{wholeRefusal};
-ghost use Rattle.policy.specs.Record.{tablesOf};
-ghost use Rattle.policy.specs.Tables.{viewOf};
 ghost use Rattle.policy.specs.Whole.{codeUnreadable};
 ghost use Rattle.wholerules.specs.Parts.{partsOf};
 use crate::flows::flow_missing;
@@ -12,7 +11,6 @@ use bits::bit_at;
 use bits::mask_at;
 use bits::widen;
 use bytes::byte_at;
-use policy::Policy;
 use policy::Refusal;
 
 fn code_unreadable<'a>(code: &'a [u8], reads: &'a [u64], partitions: u8) -> bool
@@ -60,24 +58,40 @@ pub fn lent_refusal<'a>(
     Refusal::Accepted
 }
 
-pub fn whole_refusal(policy: Policy) -> Refusal
-    requires { ⌜ (policy .segments ≤ 32) × (policy .partitions ≤ 8) ⌝ }
-    ensures { λ r. ⌜ r ≡ wholeRefusal (viewOf (tablesOf policy)) ⌝ }
+// The same of the record's masks of 32 bits: as masks of 64 they are the same numbers.
+pub fn record_refusal<'a>(
+    segments: u8,
+    partitions: u8,
+    slots: u8,
+    code: &'a [u8],
+    save: &'a [u8],
+    reads: &'a [u32],
+    writes: &'a [u32],
+    sources: &'a [u32],
+) -> Refusal
+    requires { ⌜ (segments ≤ 32) × (partitions ≤ 8) ⌝ }
+    requires { ⌜ (length (now reads) ≡ 8) × (length (now writes) ≡ 8) × (length (now sources) ≡ 32) ⌝ }
+    ensures { λ r.
+        ⌜
+        r ≡ wholeRefusal
+        (partsOf segments partitions slots (now (code .entry)) (now (save .entry)) (now (reads .entry))
+        (now (writes .entry)) (now (sources .entry)))
+        ⌝ }
 {
-    let mut reads: [u64; 8] = [0; 8];
-    widen(&policy.reads, &mut reads);
-    let mut writes: [u64; 8] = [0; 8];
-    widen(&policy.writes, &mut writes);
-    let mut sources: [u64; 32] = [0; 32];
-    widen(&policy.sources, &mut sources);
+    let mut wide_reads: [u64; 8] = [0; 8];
+    widen(reads, &mut wide_reads);
+    let mut wide_writes: [u64; 8] = [0; 8];
+    widen(writes, &mut wide_writes);
+    let mut wide_sources: [u64; 32] = [0; 32];
+    widen(sources, &mut wide_sources);
     lent_refusal(
-        policy.segments,
-        policy.partitions,
-        policy.slots,
-        &policy.code,
-        &policy.save,
-        &reads,
-        &writes,
-        &sources,
+        segments,
+        partitions,
+        slots,
+        code,
+        save,
+        &wide_reads,
+        &wide_writes,
+        &wide_sources,
     )
 }

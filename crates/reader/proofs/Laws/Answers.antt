@@ -1,18 +1,47 @@
--- What an answer holds, by whether it is a refusal: by the test in its definition.
-use mathlib.Core.Path.{_≡_}
+-- The end of the text, as the code has it: the record stands where the rules for the whole are passed, and that of zeros where not. Those rules
+-- ask nothing of a record but the parts that are lent.
+use Prim.Native.Nat.{ℕ, _≤_}
+use mathlib.Core.Path.{_≡_, _∙_}
 use mathlib.Core.Bool.{true, false}
+use mathlib.Core.List.{List}
+use lib.ListN.{length}
+use Rattle.text.specs.Lines.{linesOf}
+use Rattle.policy.specs.declared.record.Key.{Key}
 use Rattle.policy.specs.declared.record.Refusal.{Refusal}
 use Rattle.policy.specs.Limits.{single}
+use Rattle.policy.specs.Draft.{begun}
 use Rattle.policy.specs.Refusals.{isAccepted}
-use Rattle.policy.specs.Tables.{Tables, zeros}
-use Rattle.policy.specs.Read.{Answer, answer}
+use Rattle.policy.specs.Tables.{Tables, zeros, viewOf}
+use Rattle.policy.specs.Read.{Answer, answer, wholeRefusal, readLines}
+use Rattle.policy.specs.Whole.{incomplete, codeUnreadable, flowMissing}
+use Rattle.wholerules.specs.Parts.{partsOf}
+use Rattle.reader.proofs.Laws.Run.{Reached, stops-end}
 
 abbrev reading : Refusal → Tables → Answer
 reading refusal tables = record { refusal = refusal; tables = tables }
 
-module _ (refusal : Refusal) (tables : Tables) where
-  pub answer-record : isAccepted refusal ≡ true → reading refusal tables ≡ answer single refusal tables
-  answer-record h = rw h
+module _ (text : List ℕ) (tables : Tables) (before : Key) (at n : ℕ) (r : Reached text tables before at n)
+    (end : length text ≤ at) (refusal : Refusal)
+    (is-refusal :
+    refusal
+    ≡ wholeRefusal
+    (partsOf (tables .segments .count) (tables .partitions .count) (tables .slots .count) (tables .partitions .code)
+    (tables .partitions .save) (tables .rights .reads) (tables .rights .writes) (tables .flows .sources))) where
+  same-refusal : refusal ≡ wholeRefusal (viewOf tables)
+  unfolding wholeRefusal incomplete codeUnreadable flowMissing
+  same-refusal = is-refusal
 
-  pub answer-zeros : isAccepted refusal ≡ false → answer single refusal (zeros single) ≡ answer single refusal tables
-  answer-zeros h = rw h
+  answered : answer single refusal tables ≡ readLines single 1 (begun single) (linesOf text)
+  answered = rw same-refusal (stops-end text tables before at n r end)
+
+  record-stands : isAccepted refusal ≡ true → reading refusal tables ≡ answer single refusal tables
+  record-stands h = rw h
+
+  zeros-stand : isAccepted refusal ≡ false → answer single refusal (zeros single) ≡ answer single refusal tables
+  zeros-stand h = rw h
+
+  pub end-record : isAccepted refusal ≡ true → reading refusal tables ≡ readLines single 1 (begun single) (linesOf text)
+  end-record h = record-stands h ∙ answered
+
+  pub end-zeros : isAccepted refusal ≡ false → answer single refusal (zeros single) ≡ readLines single 1 (begun single) (linesOf text)
+  end-zeros h = zeros-stand h ∙ answered

@@ -1,16 +1,16 @@
 -- A field of a text ends at the first tab or line end: what is left of the text up to a line end, and of that up to a
 -- tab, is made one byte at a time.
-use Prim.Native.Nat.{ℕ, zero, suc, _+_, _-_, _<_, _≤_}
+use Prim.Native.Nat.{ℕ, zero, suc, _+_, _<_, _≤_}
 use mathlib.Core.Path.{_≡_, refl, sym, _∙_, ap}
 use mathlib.Core.Bool.{Bool, true, false, _||_}
 use mathlib.Core.List.{List, [], _∷_}
 use native.Mathlib.Numerals.{add-one}
-use native.Mathlib.Nat.{zero-add, add-zero, suc-add, add-sub-cancel-left}
+use native.Mathlib.Nat.{zero-add, add-zero, suc-add}
 use native.Mathlib.Omega.{arith}
 use borrow.Author.Tests.{lt-ltb, eq-eqb, ne-eqb, eqb-true, eqb-false}
 use lib.Dec.{eqb}
-use lib.ListN.{length, take, drop, getD, length-take, length-drop, drop-of-length-le}
-use lib.Seq.{take-nil, take-take, drop-cons, length-take-le}
+use lib.ListN.{length, take, drop, getD, length-take, drop-of-length-le}
+use lib.Seq.{take-nil, drop-cons, length-take-le}
 use Rattle.text.proofs.Laws.Bools.{or-left, or-right}
 use Rattle.text.proofs.Laws.Cut.{first-here, first-more, piece-within, piece-front, end-here, end-more, end-most}
 use Rattle.text.proofs.Laws.Cut.{end-least}
@@ -42,16 +42,6 @@ module _ (x : ℕ) (l : List ℕ) where
   unfolding fieldIn
   field-more d e = rw (first-more lineEnd x l e, first-more tab x (first (cut lineEnd l)) d)
 
--- The field is the front of the bytes.
-pub field-front : (l : List ℕ) → take (length (fieldIn l)) l ≡ fieldIn l
-unfolding fieldIn
-field-front l =
-    let q = first (cut lineEnd l) in
-    let p = first (cut tab q) in
-    sym (take-take (length p) (length q) l (piece-within tab q))
-    ∙ ap (take (length p)) (piece-front lineEnd l)
-    ∙ piece-front tab q
-
 pub field-within : (l : List ℕ) → length (fieldIn l) ≤ length l
 unfolding fieldIn
 field-within l = omega (arith, piece-within tab (first (cut lineEnd l)), piece-within lineEnd l)
@@ -72,13 +62,6 @@ module _ (text : List ℕ) (at : ℕ) where
   pub end-field : endAt tab (upTo text at) at ≡ at + length (fieldIn (drop at text))
   unfolding endAt
   end-field = ap (λ l. at + length l) piece-field
-
-  pub ends-most : at ≤ length text → endAt tab (upTo text at) at ≤ length text
-  ends-most h = omega (arith, end-field, field-within (drop at text), length-drop at text)
-
-  -- A field's bytes, cut out from its start to the end that was found.
-  pub field-is : {end : ℕ} → end ≡ endAt tab (upTo text at) at → take (end - at) (drop at text) ≡ fieldIn (drop at text)
-  field-is e = rw (e, end-field, add-sub-cancel-left, field-front)
 
   up-short : length (upTo text at) ≤ length text
   up-short = omega (arith, length-take (endAt lineEnd text at) text)
@@ -150,9 +133,3 @@ module _ (read : List ℕ → Number) (text : List ℕ) (c : Cursor) where
         let inside : c .at < length (upTo text (c .at)) = omega (arith, long, more, end-least lineEnd text (c .at + 1)) in
         let same : upTo text (c .at) ≡ upTo text (c .at + 1) = ap (λ (k : ℕ). take k text) more in
         rw (lt-ltb (c .at) (length (upTo text (c .at))) inside, same, piece-field text (c .at + 1), end-field text (c .at + 1))
-
-    pub after-read :
-        {end : ℕ} → (getD text (c .at) 0 ≡ lineEnd → ⊥) → end ≡ endAt tab (upTo text (c .at + 1)) (c .at + 1)
-        → foundAt (read (take (end - (c .at + 1)) rest)) (record { at = end; line = c .line })
-        ≡ fieldAfter read (upTo text (c .at)) c
-    after-read d e = rw (after-field d, field-is text (c .at + 1) e, e, end-field text (c .at + 1))

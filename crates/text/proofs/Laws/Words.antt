@@ -8,18 +8,21 @@ use native.Mathlib.Omega.{arith}
 use native.Mathlib.Nat.{add-sub-cancel-left}
 use borrow.Author.Tests.{ne-eqb, eqb-true, eqb-false, not-true}
 use lib.Dec.{eqb}
-use lib.ListN.{length, take, drop, length-drop}
+use lib.ListN.{length, take, drop, getD, length-drop}
 use lib.Seq.{drop-drop}
 use Rattle.text.proofs.Laws.Bools.{and-left, and-right, eqb-sum}
 use Rattle.text.proofs.Laws.Bytes.{same-lengths, same-equal}
 use Rattle.text.proofs.Laws.Ends.{fieldIn, field-nil, field-tab, field-line, field-more, field-within, piece-field, end-field}
-use Rattle.text.specs.Readers.{wordRead}
+use Rattle.text.proofs.Laws.Ends.{after-field}
+use Rattle.text.specs.Readers.{wordRead, takenFrom, lettersRead}
 use Rattle.text.specs.Bytes.{same}
 use Rattle.text.specs.Cut.{tab, lineEnd}
 use Rattle.text.specs.Lines.{wordOf}
-use Rattle.text.specs.Places.{upTo, unparted, pieceAt, endAt}
+use Rattle.text.specs.Number.{letters}
+use Rattle.text.specs.Places.{upTo, unparted, pieceAt, endAt, foundAt}
 use Rattle.text.specs.declared.line.Cursor.{Cursor}
 use Rattle.text.specs.declared.line.Kind.{Kind}
+use Rattle.text.specs.declared.line.Number.the-variants.{Malformed}
 
 -- The field ends where it begins.
 abbrev empty : List ℕ → Bool
@@ -114,3 +117,23 @@ module _ (text : List ℕ) (c : Cursor) where
       → record { kind = kind; next = record { at = end; line = c .line } } ≡ wordRead (upTo text (c .at)) c
   unfolding wordRead
   word-unknown e k = rw (k, e)
+
+-- The field after a place, by the letters that it is, or by its being none of them.
+module _ (text : List ℕ) (c : Cursor) (inside : c .at < length text) (o : getD text (c .at) 0 ≡ lineEnd → ⊥) where
+  abbrev next : List ℕ
+  next = pieceAt tab (upTo text (c .at + 1)) (c .at + 1)
+
+  read-next :
+      takenFrom (foundAt (letters next) (record { at = c .at + 1 + length next; line = c .line })) c
+      ≡ lettersRead (upTo text (c .at)) c
+  unfolding lettersRead
+  read-next = rw (after-field letters text c inside o, piece-field text (c .at + 1))
+
+  pub letters-known :
+      (word : List ℕ) → same next word ≡ true
+      → takenFrom (foundAt (letters word) (record { at = c .at + 1 + length word; line = c .line })) c
+      ≡ lettersRead (upTo text (c .at)) c
+  letters-known word h = rw (same-equal next word h) at read-next
+
+  pub letters-none : letters next ≡ Malformed → record { number = Malformed; next = c } ≡ lettersRead (upTo text (c .at)) c
+  letters-none h = rw h at read-next

@@ -1,7 +1,7 @@
--- The bits of several masks at once: a bit of one is a bit of all together, and each of those is one of some mask.
+-- The bits of the masks of two lists at once: a bit of one is a bit of all together, and each of those is one of some mask.
 use Prim.Native.Nat.{ℕ, zero, suc, _+_, _^_, _<_, _≤_}
 use mathlib.Core.Path.{_≡_, refl, sym, _∙_, ap}
-use mathlib.Core.Bool.{Bool, true, false, cond, _&&_, _||_, or-false, true≢false}
+use mathlib.Core.Bool.{Bool, true, false, cond, _&&_, _||_, or-false, or-assoc, true≢false}
 use mathlib.Core.List.{List}
 use native.Mathlib.Nat.{lt-of-le-of-lt}
 use native.Mathlib.Numerals.{add-one}
@@ -20,54 +20,60 @@ use Rattle.policy.proofs.Laws.Bools.{and-left, and-right, not-so}
 use Rattle.policy.proofs.Laws.Tests.{parts}
 use Rattle.validate.specs.Masks.{bitsFit, gathered}
 
-module _ (masks : List ℕ) (from : ℕ) where
-  pub gather-none : (to : ℕ) → to ≤ from → 0 ≡ gathered masks from to
+-- Whether one of the masks at a place has a bit.
+abbrev pub oneHas : List ℕ → List ℕ → ℕ → ℕ → Bool
+oneHas a b i s = has (getD a i 0) s || has (getD b i 0) s
+
+module _ (a b : List ℕ) (from : ℕ) where
+  pub gather-none : (to : ℕ) → to ≤ from → 0 ≡ gathered a b from to
   unfolding gathered
   gather-none zero l = refl
   gather-none (suc i) l = gather-none i (omega arith) ∙ rw (lt-leb from i (omega arith))
 
-  pub gather-more : (i used : ℕ) → from ≤ i → used ≡ gathered masks from i → bitOr used (getD masks i 0) ≡ gathered masks from (i + 1)
+  pub gather-more : (i used : ℕ) → from ≤ i → used ≡ gathered a b from i → bitOr (bitOr used (getD a i 0)) (getD b i 0) ≡ gathered a b from (i + 1)
   unfolding gathered
   gather-more i used l e = rw (add-one, le-leb from i l, e)
 
   hasIn : ℕ → ℕ → Bool
-  hasIn s i = leb from i && has (getD masks i 0) s
+  hasIn s i = leb from i && oneHas a b i s
 
-  has-gathered : (to s : ℕ) → has (gathered masks from to) s ≡ someBelow to (hasIn s)
+  has-gathered : (to s : ℕ) → has (gathered a b from to) s ≡ someBelow to (hasIn s)
   unfolding gathered someBelow hasIn
   has-gathered zero s = has-none s
   has-gathered (suc i) s = go (leb from i) (has-gathered i s)
     where
-      go : (b : Bool) → has (gathered masks from i) s ≡ someBelow i (hasIn s) →
-          has (cond b (bitOr (gathered masks from i) (getD masks i 0)) (gathered masks from i)) s
-          ≡ someBelow i (hasIn s) || b && has (getD masks i 0) s
-      go true e = has-or (gathered masks from i) (getD masks i 0) s ∙ rw e
+      go : (t : Bool) → has (gathered a b from i) s ≡ someBelow i (hasIn s) →
+          has (cond t (bitOr (bitOr (gathered a b from i) (getD a i 0)) (getD b i 0)) (gathered a b from i)) s
+          ≡ someBelow i (hasIn s) || t && oneHas a b i s
+      go true e =
+          has-or (bitOr (gathered a b from i) (getD a i 0)) (getD b i 0) s
+          ∙ rw (has-or (gathered a b from i) (getD a i 0) s, e, or-assoc)
       go false e = e ∙ sym (or-false (someBelow i (hasIn s)))
 
-  gather-under : (w : ℕ) → AllUnder w masks → (to : ℕ) → gathered masks from to < 2 ^ w
+  gather-under : (w : ℕ) → AllUnder w a → AllUnder w b → (to : ℕ) → gathered a b from to < 2 ^ w
   unfolding gathered
-  gather-under w u zero = pow-pos w
-  gather-under w u (suc i) = go (leb from i) (gather-under w u i)
+  gather-under w u v zero = pow-pos w
+  gather-under w u v (suc i) = go (leb from i) (gather-under w u v i)
     where
-      go : (b : Bool) → gathered masks from i < 2 ^ w →
-          cond b (bitOr (gathered masks from i) (getD masks i 0)) (gathered masks from i) < 2 ^ w
-      go true l = or-lt w (gathered masks from i) (getD masks i 0) l (u i)
+      go : (t : Bool) → gathered a b from i < 2 ^ w →
+          cond t (bitOr (bitOr (gathered a b from i) (getD a i 0)) (getD b i 0)) (gathered a b from i) < 2 ^ w
+      go true l = or-lt w (bitOr (gathered a b from i) (getD a i 0)) (getD b i 0) (or-lt w (gathered a b from i) (getD a i 0) l (u i)) (v i)
       go false l = l
 
-  gather-in : (to i s : ℕ) → from ≤ i → i < to → has (getD masks i 0) s ≡ true → has (gathered masks from to) s ≡ true
+  gather-in : (to i s : ℕ) → from ≤ i → i < to → oneHas a b i s ≡ true → has (gathered a b from to) s ≡ true
   unfolding hasIn
   gather-in to i s l m h = has-gathered to s ∙ some-found (hasIn s) to i m (rw (le-leb from i l, h))
 
   -- What holds of each place whose mask has the bit holds where they have it together.
-  gather-out : (to s : ℕ) (P : Type 0) → ((i : ℕ) → from ≤ i → i < to → has (getD masks i 0) s ≡ true → P) →
-      has (gathered masks from to) s ≡ true → P
+  gather-out : (to s : ℕ) (P : Type 0) → ((i : ℕ) → from ≤ i → i < to → oneHas a b i s ≡ true → P) →
+      has (gathered a b from to) s ≡ true → P
   unfolding hasIn
   gather-out to s P f h =
-      let a = some-at (hasIn s) to (sym (has-gathered to s) ∙ h) in
-      f (a .number)
-      (leb-true from (a .number) (and-left (leb from (a .number)) (has (getD masks (a .number) 0) s) (a .passes)))
-      (a .below)
-      (and-right (leb from (a .number)) (has (getD masks (a .number) 0) s) (a .passes))
+      let k = some-at (hasIn s) to (sym (has-gathered to s) ∙ h) in
+      f (k .number)
+      (leb-true from (k .number) (and-left (leb from (k .number)) (oneHas a b (k .number) s) (k .passes)))
+      (k .below)
+      (and-right (leb from (k .number)) (oneHas a b (k .number) s) (k .passes))
 
 -- A mask without bits is 0.
 none-zero : (w m : ℕ) → m < 2 ^ w → ((s : ℕ) → s < w → has m s ≡ true → ⊥) → m ≡ 0
@@ -79,21 +85,21 @@ pub record Allowed (n there barred i s : ℕ) : Type 0 where
   pub stands : has there s ≡ true
   pub free : has barred s ≡ false
 
-module _ (masks : List ℕ) (n there barred : ℕ) where
+module _ (a b : List ℕ) (n there barred : ℕ) where
   abbrev used : ℕ
-  used = gathered masks 0 n
+  used = gathered a b 0 n
 
   abbrev past : ℕ
-  past = gathered masks n (length masks)
+  past = gathered a b n (length a)
 
-  pub fit-at : bitsFit masks n there barred ≡ true →
-      (i s : ℕ) → i < length masks → has (getD masks i 0) s ≡ true → Allowed n there barred i s
+  pub fit-at : bitsFit a b n there barred ≡ true →
+      (i s : ℕ) → i < length a → oneHas a b i s ≡ true → Allowed n there barred i s
   unfolding bitsFit
-  fit-at h i s l b = go (decLt i n)
+  fit-at h i s l e = go (decLt i n)
     where
       go : Dec (i < n) → Allowed n there barred i s
       go (yes m) =
-          let in-used = gather-in masks 0 n i s (omega arith) m b in
+          let in-used = gather-in a b 0 n i s (omega arith) m e in
           let none : bitAnd used barred ≡ 0 = eqb-true (bitAnd used barred) 0 (search parts) in
           record {
             among = m;
@@ -106,30 +112,30 @@ module _ (masks : List ℕ) (n there barred : ℕ) where
           }
       go (no m) =
           let zero-past : past ≡ 0 = eqb-true past 0 (search parts) in
-          let in-past = gather-in masks n (length masks) i s (omega arith) l b in
+          let in-past = gather-in a b n (length a) i s (omega arith) l e in
           absurd (true≢false (sym in-past ∙ ap (λ (k : ℕ). has k s) zero-past ∙ has-none s))
 
-  pub fit-of : (w : ℕ) → AllUnder w masks → n ≤ length masks →
-      ((i s : ℕ) → i < length masks → s < w → has (getD masks i 0) s ≡ true → Allowed n there barred i s) →
-      bitsFit masks n there barred ≡ true
+  pub fit-of : (w : ℕ) → AllUnder w a → AllUnder w b → n ≤ length a →
+      ((i s : ℕ) → i < length a → s < w → oneHas a b i s ≡ true → Allowed n there barred i s) →
+      bitsFit a b n there barred ≡ true
   unfolding bitsFit
-  fit-of w u k h =
+  fit-of w u v k h =
       rw (
         eq-eqb (bitAnd used there) used
-            (within-of w used there under-used (λ s l. gather-out masks 0 n s _ (λ i a b c. h i s (omega arith) l c .stands))),
+            (within-of w used there under-used (λ s l. gather-out a b 0 n s _ (λ i f g c. h i s (omega arith) l c .stands))),
         eq-eqb (bitAnd used barred) 0 (none-zero w (bitAnd used barred) (lt-of-le-of-lt (and-le-l used barred) under-used) not-barred),
-        eq-eqb past 0 (none-zero w past (gather-under masks n w u (length masks)) none-past),
+        eq-eqb past 0 (none-zero w past (gather-under a b n w u v (length a)) none-past),
       )
     where
       under-used : used < 2 ^ w
-      under-used = gather-under masks 0 w u n
+      under-used = gather-under a b 0 w u v n
 
       not-barred : (s : ℕ) → s < w → has (bitAnd used barred) s ≡ true → ⊥
       not-barred s l e =
           let both = sym (has-and used barred s) ∙ e in
           true≢false
           (sym (and-right (has used s) (has barred s) both)
-          ∙ gather-out masks 0 n s _ (λ i a b c. h i s (omega arith) l c .free) (and-left (has used s) (has barred s) both))
+          ∙ gather-out a b 0 n s _ (λ i f g c. h i s (omega arith) l c .free) (and-left (has used s) (has barred s) both))
 
       none-past : (s : ℕ) → s < w → has past s ≡ true → ⊥
-      none-past s l e = gather-out masks n (length masks) s ⊥ (λ i a b c. let m = h i s b l c .among in omega arith) e
+      none-past s l e = gather-out a b n (length a) s ⊥ (λ i f g c. let m = h i s g l c .among in omega arith) e

@@ -2,7 +2,7 @@
 -- the definition's tests of each pair.
 use Prim.Native.Nat.{ℕ, _+_, _<_, _≤_}
 use mathlib.Core.Path.{_≡_, refl, sym, _∙_}
-use mathlib.Core.Bool.{Bool, true, false, _&&_, _||_, not, or-true, or-false, true≢false}
+use mathlib.Core.Bool.{Bool, true, false, _&&_, _||_, not, or-true, or-false, or-self, true≢false}
 use mathlib.Core.List.{List, []}
 use native.Mathlib.Omega.{arith}
 use native.Mathlib.Numerals.{add-one}
@@ -103,7 +103,7 @@ module _
         }
 
     abbrev tests : Bool
-    tests = bitsFit reads partitions there saves && bitsFit writes partitions there saves
+    tests = bitsFit reads writes partitions there saves
 
     abbrev pairs : Bool
     pairs = eachBelow 8 (λ p. eachBelow 32 (goodRight single view p))
@@ -114,26 +114,17 @@ module _
         pairs-of (goodRight single view) 8 32
         (λ p s lp ls.
         unsaid (view .reads p s || view .writes p s) (passes single view (Right p s (modeIn view p s)))
-        (λ e. right-passes p s (go p s lp (view .reads p s) refl e)))
-      where
-        go : (p s : ℕ) → p < 8 → (b : Bool) → view .reads p s ≡ b → view .reads p s || view .writes p s ≡ true →
-            Allowed partitions there saves p s
-        go p s l true r e = fit-at reads partitions there saves (search parts) p s (omega arith) r
-        go p s l false r e = fit-at writes partitions there saves (search parts) p s (omega arith) (rw r at e)
+        (λ e. right-passes p s (fit-at reads writes partitions there saves h p s (omega arith) e)))
 
     rights-from : pairs ≡ true → tests ≡ true
     unfolding goodRight
     rights-from h =
-        and-both (bitsFit reads partitions there saves) (bitsFit writes partitions there saves)
-        (fit-of reads partitions there saves 32 reads-under (omega arith) (λ p s lp ls e. given p s (omega arith) ls (rw e)))
-        (fit-of writes partitions there saves 32 writes-under (omega arith) (λ p s lp ls e. given p s (omega arith) ls (rw (e, or-true))))
-      where
-        given : (p s : ℕ) → p < 8 → s < 32 → view .reads p s || view .writes p s ≡ true → Allowed partitions there saves p s
-        given p s lp ls e =
-            right-allowed p s
-            (said (view .reads p s || view .writes p s) (passes single view (Right p s (modeIn view p s)))
-            (pairs-at (goodRight single view) 8 32 h p s lp ls)
-            e)
+        fit-of reads writes partitions there saves 32 reads-under writes-under (omega arith)
+        (λ p s lp ls e.
+        right-allowed p s
+        (said (view .reads p s || view .writes p s) (passes single view (Right p s (modeIn view p s)))
+        (pairs-at (goodRight single view) 8 32 h p s (omega arith) ls)
+        e))
 
     pub rights-told : tests ≡ pairs
     rights-told = same-truth tests pairs rights-to rights-from
@@ -155,7 +146,7 @@ module _
     isOther t = not (has (getD sources t 0) t)
 
     abbrev flow-tests : Bool
-    flow-tests = bitsFit sources segments present 0 && eachBelow segments isOther
+    flow-tests = bitsFit sources sources segments present 0 && eachBelow segments isOther
 
     abbrev flow-pairs : Bool
     flow-pairs = eachBelow 32 (λ s. eachBelow 32 (goodFlow single flows s))
@@ -166,7 +157,7 @@ module _
         pairs-of (goodFlow single flows) 32 32
         (λ s t ls lt.
         unsaid (flows .flow s t) (passes single flows (Flow s t))
-        (λ e. given s t e (fit-at sources segments present 0 (search parts) t s (omega arith) e)))
+        (λ e. given s t e (fit-at sources sources segments present 0 (search parts) t s (omega arith) (rw e))))
       where
         given : (s t : ℕ) → flows .flow s t ≡ true → Allowed segments present 0 t s → passes single flows (Flow s t) ≡ true
         given s t e a =
@@ -178,8 +169,9 @@ module _
     flows-from : flow-pairs ≡ true → flow-tests ≡ true
     unfolding goodFlow outOfRange clashes
     flows-from h =
-        and-both (bitsFit sources segments present 0) (eachBelow segments isOther)
-        (fit-of sources segments present 0 32 under (omega arith) (λ t s lt ls e. given s t (passed s t ls (omega arith) e)))
+        and-both (bitsFit sources sources segments present 0) (eachBelow segments isOther)
+        (fit-of sources sources segments present 0 32 under under (omega arith)
+        (λ t s lt ls e. given s t (passed s t ls (omega arith) (sym (or-self (flows .flow s t)) ∙ e))))
         (each-of isOther segments (λ t l. rw (own t l)))
       where
         passed : (s t : ℕ) → s < 32 → t < 32 → flows .flow s t ≡ true → passes single flows (Flow s t) ≡ true

@@ -1,27 +1,64 @@
--- The end of a list is all 0 by its first number and the rest.
+-- The ends of two lists are all 0 by their first numbers and the rest, and two numbers are 0 where their bits together are.
 use Prim.Native.Nat.{ℕ, _+_, _<_, _≤_}
-use mathlib.Core.Path.{_≡_}
-use mathlib.Core.Bool.{Bool, true, not, _&&_, and-true, and-false}
+use mathlib.Core.Path.{_≡_, refl}
+use mathlib.Core.Bool.{Bool, true, false, _&&_, and-true, and-false, and-assoc}
 use mathlib.Core.List.{List}
+use native.Mathlib.Decide.{ℕ-discrete}
 use native.Mathlib.Numerals.{add-one}
-use borrow.Author.Tests.{eq-eqb, ne-eqb}
+use native.Mathlib.Omega.{arith}
+use borrow.Author.Tests.{ne-eqb}
+use lib.Bits.{bitOr, and-le-r, or-add-and, or-zero-l}
+use lib.Dec.{eqb}
 use lib.ListN.{length, getD, drop, drop-of-length-le}
 use lib.Seq.{drop-cons}
-use Rattle.policy.specs.Sound.{allZero}
+use Rattle.policy.specs.Sound.{allZero, unusedZero}
+use Rattle.policy.specs.Tables.{Tables}
 
--- Before the loop's turn at i: all is 0 from the start on where none that was read is used and what is left is 0.
-abbrev pub ZeroTo : List ℕ → ℕ → ℕ → Bool → Type 0
-ZeroTo a from i used = allZero (drop from a) ≡ not used && allZero (drop i a)
+or-none : (x y : ℕ) → eqb (bitOr x y) 0 ≡ eqb x 0 && eqb y 0
+or-none x y = go (ℕ-discrete x 0)
+  where
+    go : Dec (x ≡ 0) → eqb (bitOr x y) 0 ≡ eqb x 0 && eqb y 0
+    go (yes q) = rw (q, or-zero-l y)
+    go (no q) =
+        rw (ne-eqb x 0 q)
+        (ne-eqb (bitOr x y) 0 (λ e. q (omega (arith, or-add-and x y, and-le-r x y))))
 
-module _ (a : List ℕ) (from i : ℕ) (used : Bool) (z : ZeroTo a from i used) where
-  pub zero-found : i < length a → (getD a i 0 ≡ 0 → ⊥) → ZeroTo a from (i + 1) true
+by-turn : (used x y p q : Bool) → used && (x && p && (y && q)) ≡ used && x && y && (p && q)
+by-turn false x y p q = refl
+by-turn true false y p q = refl
+by-turn true true false p q = and-false p
+by-turn true true true p q = refl
+
+abbrev zeros : List ℕ → List ℕ → ℕ → Bool
+zeros a b i = allZero (drop i a) && allZero (drop i b)
+
+-- Before the loop's turn at i: all is 0 from the start on where what was read is 0 and what is left is.
+abbrev pub ZeroTo : List ℕ → List ℕ → ℕ → ℕ → ℕ → Type 0
+ZeroTo a b from i used = zeros a b from ≡ eqb used 0 && zeros a b i
+
+module _ (a b : List ℕ) (from i used : ℕ) (e : length a ≡ length b) (z : ZeroTo a b from i used) where
+  pub zero-more : i < length a → ZeroTo a b from (i + 1) (bitOr (bitOr used (getD a i 0)) (getD b i 0))
   unfolding allZero
-  zero-found l h = rw (z, drop-cons a i 0 l, ne-eqb (getD a i 0) 0 h, and-false)
+  zero-more l =
+      rw (z, drop-cons a i 0 l, drop-cons b i 0 (rw e at l), or-none, or-none, add-one)
+      (by-turn (eqb used 0) (eqb (getD a i 0) 0) (eqb (getD b i 0) 0) _ _)
 
-  pub zero-more : i < length a → getD a i 0 ≡ 0 → ZeroTo a from (i + 1) used
+  pub zero-done : length a ≤ i → eqb used 0 ≡ zeros a b from
   unfolding allZero
-  zero-more l h = rw (z, drop-cons a i 0 l, eq-eqb (getD a i 0) 0 h, add-one)
+  zero-done l = rw (z, drop-of-length-le a {i = i} l, drop-of-length-le b {i = i} (rw e at l), and-true)
 
-  pub zero-done : length a ≤ i → not used ≡ allZero (drop from a)
-  unfolding allZero
-  zero-done l = rw (z, drop-of-length-le a {i = i} l, and-true)
+-- The unused entries of a record, two arrays at once.
+pub unused-by-two : (t : Tables) →
+    zeros (t .segments .base) (t .segments .size) (t .segments .count)
+    && zeros (t .partitions .code) (t .partitions .save) (t .partitions .count)
+    && zeros (t .slots .owner) (t .slots .ticks) (t .slots .count)
+    && eqb (t .unused) 0
+    ≡ unusedZero t
+unfolding unusedZero
+unused-by-two t =
+    let first = zeros (t .segments .base) (t .segments .size) (t .segments .count) in
+    let code = allZero (drop (t .partitions .count) (t .partitions .code)) in
+    let save = allZero (drop (t .partitions .count) (t .partitions .save)) in
+    let owner = allZero (drop (t .slots .count) (t .slots .owner)) in
+    let ticks = allZero (drop (t .slots .count) (t .slots .ticks)) in
+    rw (and-assoc first code save, and-assoc (first && (code && save)) owner ticks)

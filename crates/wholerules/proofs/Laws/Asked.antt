@@ -1,21 +1,24 @@
 -- The masks of rule 8 bit by bit: what a partition reaches is its save segment and what its mask gives, and what is asked for into t is
 -- what some partition reaches that may write t.
 use Prim.Native.Nat.{ℕ, zero, suc, _+_, _^_, _<_, _≤_}
-use mathlib.Core.Path.{_≡_, refl, _∙_}
-use mathlib.Core.Bool.{Bool, true, false, cond, _&&_, _||_, and-true}
+use mathlib.Core.Path.{_≡_, refl, sym, _∙_}
+use mathlib.Core.Bool.{Bool, true, false, cond, _&&_, _||_, and-true, true≢false}
 use mathlib.Core.List.{List}
-use native.Mathlib.Nat.{lt-of-le-of-lt}
+use native.Mathlib.Nat.{lt-of-le-of-lt, pow-suc}
 use native.Mathlib.Numerals.{add-one}
 use native.Mathlib.Omega.{arith}
 use lib.Bits.{bitAnd, bitOr, and-le-r, or-lt}
 use lib.Dec.{eqb}
-use lib.ListN.{getD}
+use lib.ListN.{getD, length, set}
 use lib.Pow.{pow-pos}
+use lib.Seq.{getD-set-same, getD-set-other}
 use Rattle.bits.specs.Masks.{has, maskOf}
-use Rattle.bits.proofs.Laws.Masks.{has-and, has-none, has-or, mask-under}
+use Rattle.bits.proofs.Laws.Masks.{has-and, has-none, has-or, mask-under, within-at, within-of}
 use Rattle.bits.proofs.Laws.Sets.{has-below, mask-is}
 use Rattle.policy.specs.Below.{someBelow}
-use Rattle.wholerules.specs.Masks.{askedInto}
+use Rattle.policy.proofs.Laws.Below.{some-at, some-found}
+use Rattle.policy.proofs.Laws.Bools.{and-left, and-right}
+use Rattle.wholerules.specs.Masks.{askedInto, joined}
 
 module _ (n own there byte : ℕ) (few : n ≤ 64) (o : own ≡ maskOf 64 (λ u. eqb u byte)) (t : there ≡ maskOf n (λ s. true)) where
   pub reached-is : (mask k m : ℕ) → byte ≡ k → mask ≡ m →
@@ -36,6 +39,27 @@ module _ (n own there byte : ℕ) (few : n ≤ 64) (o : own ≡ maskOf 64 (λ u.
         e,
       ))
 
+module _ (list : List ℕ) where
+  has-joined : (n s : ℕ) → has (joined list n) s ≡ someBelow n (λ p. has (getD list p 0) s)
+  unfolding joined someBelow
+  has-joined zero s = has-none s
+  has-joined (suc p) s = has-or (joined list p) (getD list p 0) s ∙ rw (has-joined p s)
+
+  joined-kept : (i value n : ℕ) → n ≤ i → joined (set list i value) n ≡ joined list n
+  unfolding joined
+  joined-kept i value zero l = refl
+  joined-kept i value (suc n) l =
+      rw (joined-kept i value n (omega arith), getD-set-other list i n value 0 (λ q. omega arith))
+
+  pub joined-more : (i every value : ℕ) → i < length list → every ≡ joined list i →
+      bitOr every value ≡ joined (set list i value) (i + 1)
+  unfolding joined
+  joined-more i every value l e = rw (add-one, e, joined-kept i value i (omega arith), getD-set-same list i value 0 l)
+
+own-width : (m : ℕ) → m < 2 ^ m
+own-width zero = omega arith
+own-width (suc m) = rw pow-suc (omega (arith, own-width m))
+
 module _ (reached written : List ℕ) (t : ℕ) where
   pub asked-more : (p : ℕ) (asked more : ℕ) → asked ≡ askedInto reached written t p →
       more ≡ cond (has (getD written p 0) t) (getD reached p 0) 0 → bitOr asked more ≡ askedInto reached written t (p + 1)
@@ -53,6 +77,28 @@ module _ (reached written : List ℕ) (t : ℕ) where
   has-asked (suc p) s =
       has-or (askedInto reached written t p) (cond (has (getD written p 0) t) (getD reached p 0) 0) s
       ∙ rw (has-asked p s, has-cond (has (getD written p 0) t) (getD reached p 0) s)
+
+  -- What is asked for is reached, and somebody may write t.
+  asked-at : (n s : ℕ) → has (askedInto reached written t n) s ≡ true → (has (joined reached n) s ≡ true) × (has (joined written n) t ≡ true)
+  asked-at n s h =
+      let a = some-at (λ p. has (getD written p 0) t && has (getD reached p 0) s) n (sym (has-asked n s) ∙ h) in
+      let w = has (getD written (a .number) 0) t in
+      let r = has (getD reached (a .number) 0) s in (
+        has-joined reached n s ∙ some-found (λ p. has (getD reached p 0) s) n (a .number) (a .below) (and-right w r (a .passes)),
+        has-joined written n t ∙ some-found (λ p. has (getD written p 0) t) n (a .number) (a .below) (and-left w r (a .passes)),
+      )
+
+  module _ (n allowed : ℕ) where
+    abbrev asked : ℕ
+    asked = askedInto reached written t n
+
+    pub asked-within : bitAnd (joined reached n) allowed ≡ joined reached n → bitAnd asked allowed ≡ asked
+    asked-within e =
+        within-of asked asked allowed (own-width asked) (λ s l h. within-at (joined reached n) allowed e s (asked-at n s h .0))
+
+    pub unwritten-within : has (joined written n) t ≡ false → bitAnd asked allowed ≡ asked
+    unwritten-within e =
+        within-of asked asked allowed (own-width asked) (λ s l h. absurd (true≢false (sym (asked-at n s h .1) ∙ e)))
 
   pub asked-under : (w n : ℕ) → ((p : ℕ) → p < n → getD reached p 0 < 2 ^ w) → askedInto reached written t n < 2 ^ w
   unfolding askedInto

@@ -1,12 +1,14 @@
--- At the line's end there is no field; otherwise the field is from past the tab to the end that was found.
-use mathlib.Core.Path.{sym, _∙_}
+-- At the line's end there is no field; otherwise the field is the letters that stand there, or none of the three.
+use mathlib.Core.Path.{refl, sym, _∙_}
 use borrow.Author.Needs.{needs}
 use native.Mathlib.Omega.{arith}
+use Rattle.text.specs.Bytes.{bytesOf, same}
 use Rattle.text.specs.Number.{letters}
+use Rattle.text.specs.Places.{unparted}
 use Rattle.text.specs.Readers.{lettersRead}
-use Rattle.text.proofs.Laws.Cut.{end-least}
-use Rattle.text.proofs.Laws.Ends.{ends-most, after-past, after-line, after-read}
-use Rattle.text.proofs.Laws.Readers.{taken-none, taken-some}
+use Rattle.text.proofs.Laws.Ends.{after-past, after-line}
+use Rattle.text.proofs.Laws.Readers.{taken-none}
+use Rattle.text.proofs.Laws.Words.{letters-known, letters-none}
 use Rattle.fields.proofs.field.read_letters.Statement.{statement}
 use Rattle.fields.proofs.field.read_letters.Tie as tie
 
@@ -24,48 +26,72 @@ returns-2 c = taken-none _ (after-line _ _ _ (c .before .before .if1 .left) (c .
 add-from : tie.Need-add-from
 add-from c = search needs
 
-field-end-requires : tie.Need-field-end-requires
-field-end-requires c κs = search needs
+slice-aggregate-stands : tie.Need-slice-aggregate-stands
+slice-aggregate-stands c = search needs
 
-sub-letters-of : tie.Need-sub-letters-of
-sub-letters-of c = rw (c .field-end .ensures) (end-least _ _ _)
+stands-requires : tie.Need-stands-requires
+unfolding unparted
+stands-requires c κs = (omega arith, refl)
 
-part-letters-of-start : tie.Need-part-letters-of-start
-part-letters-of-start c = rw (c .field-end .ensures) (end-least _ _ _)
-
-part-letters-of-end : tie.Need-part-letters-of-end
-part-letters-of-end c = rw (c .field-end .ensures) (ends-most _ _ (omega arith))
-
-letters-of-requires : tie.Need-letters-of-requires
-letters-of-requires c κs = search needs
-
-enum-known-letters : tie.Need-enum-known-letters
-enum-known-letters c = search needs
-
-enum-told : tie.Need-enum-told
-enum-told c = search needs
+add-t20 : tie.Need-add-t20
+add-t20 c = search needs
 
 returns-3 : tie.Need-returns-3
-unfolding lettersRead
+unfolding letters same
 returns-3 c =
-    let read = c .before .before .before in
-    let end = read .before .before in
-    let head = end .before .before .before in
-    let a = head .before .before .args in
-    taken-some _
-    (rw (sym (read .letters-of .ensures) ∙ c .before .letters .given .1) at
-    (after-read letters (a .text .now) (a .c) (head .if1 .left) (end .before .if2 .left) (end .field-end .ensures)))
+    let test = c .before in
+    let there = test .before .before in
+    letters-known _ _ (there .before .before .if1 .left) (there .if2 .left) (bytesOf "r")
+    (sym (test .stands .ensures) ∙ c .if3 .taken)
+
+slice-aggregate-stands-2 : tie.Need-slice-aggregate-stands-2
+slice-aggregate-stands-2 c = search needs
+
+stands-requires-2 : tie.Need-stands-requires-2
+unfolding unparted
+stands-requires-2 c κs = (omega arith, refl)
+
+add-t26 : tie.Need-add-t26
+add-t26 c = search needs
 
 returns-4 : tie.Need-returns-4
-unfolding lettersRead
+unfolding letters same
 returns-4 c =
-    let read = c .before .before in
-    let end = read .before .before in
-    let head = end .before .before .before in
-    let a = head .before .before .args in
-    taken-none _
-    (sym (rw (sym (read .letters-of .ensures) ∙ c .enum-told .given .1) at
-    (after-read letters (a .text .now) (a .c) (head .if1 .left) (end .before .if2 .left) (end .field-end .ensures))))
+    let test = c .before in
+    let there = test .before .before .before .before .before in
+    letters-known _ _ (there .before .before .if1 .left) (there .if2 .left) (bytesOf "w")
+    (sym (test .stands2 .ensures) ∙ c .if4 .taken)
+
+slice-aggregate-stands-3 : tie.Need-slice-aggregate-stands-3
+slice-aggregate-stands-3 c = search needs
+
+stands-requires-3 : tie.Need-stands-requires-3
+unfolding unparted
+stands-requires-3 c κs = (omega arith, refl)
+
+add-t32 : tie.Need-add-t32
+add-t32 c = search needs
+
+returns-5 : tie.Need-returns-5
+unfolding letters same
+returns-5 c =
+    let test = c .before in
+    let there = test .before .before .before .before .before .before .before .before in
+    letters-known _ _ (there .before .before .if1 .left) (there .if2 .left) (bytesOf "rw")
+    (sym (test .stands3 .ensures) ∙ c .if5 .taken)
+
+returns-6 : tie.Need-returns-6
+unfolding letters
+returns-6 c =
+    let test2 = c .before .before .before in
+    let test1 = test2 .before .before .before in
+    let there = test1 .before .before .before in
+    letters-none _ _ (there .before .before .if1 .left) (there .if2 .left)
+    (rw (
+      sym (test1 .before .stands .ensures) ∙ test1 .if3 .left,
+      sym (test2 .before .stands2 .ensures) ∙ test2 .if4 .left,
+      sym (c .before .stands3 .ensures) ∙ c .if5 .left,
+    ))
 
 pub read-letters-spec : {M : Type 1} → statement M
 read-letters-spec =
@@ -75,12 +101,16 @@ read-letters-spec =
     shared-slice-read-if2
     returns-2
     add-from
-    field-end-requires
-    sub-letters-of
-    part-letters-of-start
-    part-letters-of-end
-    letters-of-requires
-    enum-known-letters
-    enum-told
+    slice-aggregate-stands
+    stands-requires
+    add-t20
     returns-3
-    returns-4)
+    slice-aggregate-stands-2
+    stands-requires-2
+    add-t26
+    returns-4
+    slice-aggregate-stands-3
+    stands-requires-3
+    add-t32
+    returns-5
+    returns-6)

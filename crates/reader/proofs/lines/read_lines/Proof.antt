@@ -1,26 +1,21 @@
 -- Before each line, what is left to read gives the answer of the whole text (Reached); the text grows shorter with each
 -- line. A line that no rule refuses has its place in the record, and what is stored there is what the line adds.
-use Prim.Native.Nat.{ℕ, _-_, _<_}
-use mathlib.Core.Path.{_≡_, refl, sym, _∙_, ap}
-use mathlib.Core.Bool.{Bool, true, false, cond}
-use mathlib.Core.List.{List}
+use Prim.Native.Nat.{_-_, _<_}
+use mathlib.Core.Path.{_≡_, sym, _∙_, ap}
 use mathlib.Core.Logic.{⊎-elim}
 use native.Mathlib.Omega.{arith}
 use borrow.Author.Needs.{needs}
 use borrow.Author.Tests.{not-true, not-false}
-use lib.ListN.{length, getD, set}
-use lib.Seq.{set-getD}
-use Rattle.bits.specs.Masks.{withBit}
-use Rattle.text.specs.declared.line.Line.the-variants.{Right}
-use Rattle.policy.specs.declared.record.Policy.{Policy}
-use Rattle.policy.specs.Draft.{added, withBitAt, withRights}
-use Rattle.policy.specs.Modes.{givesRead, givesWrite}
+use lib.ListN.{length}
+use Rattle.policy.specs.Draft.{added}
 use Rattle.policy.specs.Order.{keyOf}
 use Rattle.policy.specs.Record.{tablesOf}
 use Rattle.policy.specs.Tables.{viewOf}
 use Rattle.linerules.specs.Parts.{Fits}
 use Rattle.linerules.proofs.Laws.Fits.{segment-fits, partition-fits, right-fits, flow-fits, slot-fits}
-use Rattle.reader.proofs.Laws.Run.{Reached, reached-first, stops-end}
+use Rattle.reader.proofs.Laws.Answers.{end-record, end-zeros}
+use Rattle.reader.proofs.Laws.Run.{Reached, reached-first}
+use Rattle.reader.proofs.Laws.Stored.{stored-right}
 use Rattle.reader.proofs.Laws.Step.{step-refused, step-fits, step-more, step-shorter}
 use Rattle.reader.proofs.lines.read_lines.Statement.{statement}
 use Rattle.reader.proofs.lines.read_lines.Tie as tie
@@ -238,20 +233,6 @@ element-write-policy-9 c = omega (arith, slot-in c)
 add-policy-3 : tie.Need-add-policy-3 Inv-loop μ-loop
 add-policy-3 c = omega (arith, slot-in c)
 
--- A mask that is stored with its bit, or as it was.
-put-where : (b : Bool) (masks : List ℕ) (p s : ℕ) →
-    set masks p (cond b (withBit (getD masks p 0) s) (getD masks p 0)) ≡ cond b (withBitAt masks p s) masks
-put-where true masks p s = refl
-put-where false masks p s = set-getD masks p 0
-
-stored-right : (q : Policy) (p s mode r w : ℕ) →
-    r ≡ cond (givesRead mode) (withBit (getD (q .reads) p 0) s) (getD (q .reads) p 0) →
-    w ≡ cond (givesWrite mode) (withBit (getD (q .writes) p 0) s) (getD (q .writes) p 0) →
-    withRights (tablesOf q) (record { reads = set (q .reads) p r; writes = set (q .writes) p w }) ≡ added (tablesOf q) (Right p s mode)
-unfolding added
-stored-right q p s mode r w er ew =
-    rw (er, ew, put-where (givesRead mode) (q .reads) p s, put-where (givesWrite mode) (q .writes) p s)
-
 -- What the arms store is what the line adds, and the line stays what it was.
 stored : (c : tie.At-match-came Inv-loop μ-loop) → tablesOf (c .match .policy) ≡ added (tablesOf (c .before .before .before .before .before .before .before .before .before .before .before .before .before .before .before .before .loop .policy)) (c .before .before .before .before .before .before .before .before .before .before .before .before .before .line-from .result .line)
 unfolding added
@@ -303,13 +284,29 @@ loop-again c =
     _ _ (sym (c .before .before .before .before .is-accepted .ensures) ∙ not-false _ (c .before .before .before .if2 .left))
     (stored (c .before .before)) (c .before .key-of .ensures ∙ ap keyOf (same-line (c .before .before)))
 
-judged-requires : tie.Need-judged-requires Inv-loop μ-loop
-judged-requires c κs =
-    let counts = c .before .before .loop .inv .kept .counts in
-    (counts .segments, counts .partitions)
+record-refusal-requires : tie.Need-record-refusal-requires Inv-loop μ-loop
+record-refusal-requires c κs =
+    let counts = c .before .before .before .before .before .before .before .before .before .before .before .before .before .loop .inv .kept .counts in
+    ((counts .segments, counts .partitions), search needs)
+
+is-accepted-requires-2 : tie.Need-is-accepted-requires-2 Inv-loop μ-loop
+is-accepted-requires-2 c κs = search needs
 
 returns-2 : tie.Need-returns-2 Inv-loop μ-loop
-returns-2 c = c .judged .ensures ∙ stops-end _ _ _ _ _ (c .before .before .before .loop .inv) (c .before .if1 .left)
+returns-2 c =
+    let end = c .before .before .before .before .before .before .before .before .before .before .before .before .before .before in
+    end-record _ _ _ _ _ (end .before .before .loop .inv) (end .if1 .left) _ (c .before .before .record-refusal .ensures)
+    (sym (c .before .is-accepted2 .ensures) ∙ c .if3 .taken)
+
+refused-requires-2 : tie.Need-refused-requires-2 Inv-loop μ-loop
+refused-requires-2 c κs = search needs
+
+returns-3 : tie.Need-returns-3 Inv-loop μ-loop
+returns-3 c =
+    let end = c .before .before .before .before .before .before .before .before .before .before .before .before .before .before .before in
+    c .refused2 .ensures
+    ∙ end-zeros _ _ _ _ _ (end .before .before .loop .inv) (end .if1 .left) _ (c .before .before .before .record-refusal .ensures)
+    (sym (c .before .before .is-accepted2 .ensures) ∙ c .before .if3 .left)
 
 pub read-lines-spec : {M : Type 1} → statement M
 read-lines-spec =
@@ -376,5 +373,8 @@ read-lines-spec =
     key-of-requires
     loop-less
     loop-again
-    judged-requires
-    returns-2)
+    record-refusal-requires
+    is-accepted-requires-2
+    returns-2
+    refused-requires-2
+    returns-3)

@@ -9,19 +9,25 @@ use Rattle.validate.proofs.rights.bits_from.Statement.{statement}
 use Rattle.validate.proofs.rights.bits_from.Tie as tie
 
 abbrev Inv-loop : tie.InvT-loop
-Inv-loop masks from to used₀ i₀ used i = ((from ≤ i) × (i ≤ to)) × (used ≡ gathered masks from i)
+Inv-loop a b from to used₀ i₀ used i = ((from ≤ i) × (i ≤ to)) × (used ≡ gathered a b from i)
 
 abbrev μ-loop : tie.MeasureT-loop
-μ-loop masks from to used₀ i₀ used i = to - i
+μ-loop a b from to used₀ i₀ used i = to - i
 
 loop-holds : tie.Need-loop-holds Inv-loop μ-loop
-loop-holds c = ((omega arith, omega arith), gather-none _ _ _ (omega arith))
+loop-holds c = ((omega arith, omega arith), gather-none _ _ _ _ (omega arith))
 
 mul-used : tie.Need-mul-used Inv-loop μ-loop
 mul-used c = search needs
 
 shared-slice-read-used : tie.Need-shared-slice-read-used Inv-loop μ-loop
 shared-slice-read-used c = search needs
+
+mul-used-2 : tie.Need-mul-used-2 Inv-loop μ-loop
+mul-used-2 c = search needs
+
+shared-slice-read-used-2 : tie.Need-shared-slice-read-used-2 Inv-loop μ-loop
+shared-slice-read-used-2 c = search needs
 
 add-i : tie.Need-add-i Inv-loop μ-loop
 add-i c = search needs
@@ -31,9 +37,9 @@ loop-less c = search needs
 
 loop-again : tie.Need-loop-again Inv-loop μ-loop
 loop-again c =
-    let l = c .before .before in
+    let l = c .before .before .before in
     let a = l .before .args in
-    ((omega arith, omega arith), gather-more (a .masks .now) (a .from) (l .loop .i) _ (omega arith) (l .loop .inv .1))
+    ((omega arith, omega arith), gather-more (a .a .now) (a .b .now) (a .from) (l .loop .i) _ (omega arith) (l .loop .inv .1))
 
 returns : tie.Need-returns Inv-loop μ-loop
 returns c =
@@ -50,6 +56,8 @@ bits-from-spec =
     loop-holds
     mul-used
     shared-slice-read-used
+    mul-used-2
+    shared-slice-read-used-2
     add-i
     loop-less
     loop-again

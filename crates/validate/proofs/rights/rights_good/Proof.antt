@@ -13,19 +13,11 @@ save-bits-requires c κs = search needs
 bits-fit-requires : tie.Need-bits-fit-requires
 bits-fit-requires c κs = search needs
 
-bits-fit-requires-2 : tie.Need-bits-fit-requires-2
-bits-fit-requires-2 c κs = search needs
-
 returns : tie.Need-returns
 returns c =
-    let start = c .before .before .before .before .before .before .before in
+    let start = c .before .before .before .before .before .before in
     let a = start .args in
-    rw (
-      c .bits-fit2 .ensures,
-      c .before .bits-fit .ensures,
-      c .before .before .save-bits .ensures,
-      c .before .before .before .bits-below .ensures,
-    )
+    rw (c .bits-fit .ensures, c .before .save-bits .ensures, c .before .before .bits-below .ensures)
     (rights-told (a .segments) (a .partitions) (a .save .now) (a .reads .now) (a .writes .now) (start .pre .0 .0) (start .pre .0 .1)
     (start .pre .1 .0 .0)
     (start .pre .1 .0 .1)
@@ -35,4 +27,4 @@ returns c =
 pub rights-good-spec : {M : Type 1} → statement M
 rights-good-spec =
     tie.close
-    (tie.spec bits-below-requires save-bits-requires bits-fit-requires bits-fit-requires-2 returns)
+    (tie.spec bits-below-requires save-bits-requires bits-fit-requires returns)

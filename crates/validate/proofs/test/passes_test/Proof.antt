@@ -1,5 +1,5 @@
 -- The arrays of a record have the lengths and widths of their types, so its entries decide.
-use mathlib.Core.Path.{_≡_, _∙_}
+use mathlib.Core.Path.{_≡_, sym, _∙_}
 use borrow.Author.Needs.{needs}
 use lib.ListN.{length, length-map}
 use Rattle.validate.proofs.Laws.Shape.{sound-by}
@@ -38,14 +38,25 @@ lent-passes-requires c κs =
     let third = c .before .before .before .before .before .before .before .before .before .before .before .before .before .before .before .before .before in
     let second = third .before .before .before .before .before .before in
     let first = second .before .before .before .before .before .before in
-    record {
-      partitions-read = search needs;
-      partitions-write = search needs;
-      segments-long = search needs;
-      reads-under = rw (first .widen .ensures .0) (first .widen .ensures .1);
-      writes-under = rw (second .widen2 .ensures .0) (second .widen2 .ensures .1);
-      sources-under = rw (third .widen3 .ensures .0) (third .widen3 .ensures .1);
-    }
+    let start = first .before .before .before .before .before in
+    let g = start .good .0 .1 .1 .1 .1 .1 .1 in
+    let p = start .args .t1 in
+    let base : length (p .base) ≡ 32 = simp length-map at (g .0 .1 .0 .1) in
+    let size : length (p .size) ≡ 32 = simp length-map at (g .1 .0 .1 .0 .1) in
+    let code : length (p .code) ≡ 8 = simp length-map at (g .1 .1 .0 .1 .0 .1) in
+    let save : length (p .save) ≡ 8 = simp length-map at (g .1 .1 .1 .0 .1 .0 .1) in
+    let owner : length (p .owner) ≡ 32 = simp length-map at (g .1 .1 .1 .1 .0 .1 .0 .1) in
+    let ticks : length (p .ticks) ≡ 32 = simp length-map at (g .1 .1 .1 .1 .1 .0 .1 .0 .1) in (
+      record { segments = base ∙ sym size; partitions = code ∙ sym save; slots = owner ∙ sym ticks },
+      record {
+        partitions-read = search needs;
+        partitions-write = search needs;
+        segments-long = search needs;
+        reads-under = rw (first .widen .ensures .0) (first .widen .ensures .1);
+        writes-under = rw (second .widen2 .ensures .0) (second .widen2 .ensures .1);
+        sources-under = rw (third .widen3 .ensures .0) (third .widen3 .ensures .1);
+      },
+    )
 
 returns : tie.Need-returns
 returns c =

@@ -1,6 +1,8 @@
--- The code makes the definition's tests in its order.
+-- The code makes the definition's tests, the arrays that go by one count together.
+use mathlib.Core.List.{[]}
 use borrow.Author.Needs.{needs}
-use Rattle.policy.specs.Sound.{unusedZero}
+use Rattle.validate.specs.Parts.{recordOf}
+use Rattle.validate.proofs.Laws.Zeros.{unused-by-two}
 use Rattle.validate.proofs.test.unused_zero.Statement.{statement}
 use Rattle.validate.proofs.test.unused_zero.Tie as tie
 
@@ -10,50 +12,26 @@ cast-halves-unused c = search needs
 halves-unused-requires : tie.Need-halves-unused-requires
 halves-unused-requires c κs = search needs
 
-cast-halves-unused-2 : tie.Need-cast-halves-unused-2
-cast-halves-unused-2 c = search needs
-
-halves-unused-requires-2 : tie.Need-halves-unused-requires-2
-halves-unused-requires-2 c κs = search needs
-
 cast-bytes-unused : tie.Need-cast-bytes-unused
 cast-bytes-unused c = search needs
 
 bytes-unused-requires : tie.Need-bytes-unused-requires
 bytes-unused-requires c κs = search needs
 
-cast-bytes-unused-2 : tie.Need-cast-bytes-unused-2
-cast-bytes-unused-2 c = search needs
+cast-both-unused : tie.Need-cast-both-unused
+cast-both-unused c = search needs
 
-bytes-unused-requires-2 : tie.Need-bytes-unused-requires-2
-bytes-unused-requires-2 c κs = search needs
-
-cast-bytes-unused-3 : tie.Need-cast-bytes-unused-3
-cast-bytes-unused-3 c = search needs
-
-bytes-unused-requires-3 : tie.Need-bytes-unused-requires-3
-bytes-unused-requires-3 c κs = search needs
-
-cast-halves-unused-3 : tie.Need-cast-halves-unused-3
-cast-halves-unused-3 c = search needs
-
-halves-unused-requires-3 : tie.Need-halves-unused-requires-3
-halves-unused-requires-3 c κs = search needs
+both-unused-requires : tie.Need-both-unused-requires
+both-unused-requires c κs = search needs
 
 returns : tie.Need-returns
-unfolding unusedZero
 returns c =
-    let ticks = c .before in
-    let owner = ticks .before .before in
-    let code = owner .before .before .before .before in
-    rw (
-      ticks .halves-unused3 .ensures,
-      owner .bytes-unused3 .ensures,
-      owner .before .before .bytes-unused2 .ensures,
-      code .bytes-unused .ensures,
-      code .before .before .halves-unused2 .ensures,
-      code .before .before .before .before .halves-unused .ensures,
-    )
+    let a = c .before .before .before .before .before .before .before .before .before .before .before .before .before .args in
+    let slots = c .before in
+    let partitions = slots .before .before in
+    rw (slots .both-unused .ensures, partitions .bytes-unused .ensures, partitions .before .before .halves-unused .ensures)
+    (unused-by-two
+    (recordOf (a .counts) (a .base .now) (a .size .now) (a .code .now) (a .save .now) (a .owner .now) (a .ticks .now) [] [] []))
 
 pub unused-zero-spec : {M : Type 1} → statement M
 unused-zero-spec =
@@ -61,14 +39,8 @@ unused-zero-spec =
     (tie.spec
     cast-halves-unused
     halves-unused-requires
-    cast-halves-unused-2
-    halves-unused-requires-2
     cast-bytes-unused
     bytes-unused-requires
-    cast-bytes-unused-2
-    bytes-unused-requires-2
-    cast-bytes-unused-3
-    bytes-unused-requires-3
-    cast-halves-unused-3
-    halves-unused-requires-3
+    cast-both-unused
+    both-unused-requires
     returns)

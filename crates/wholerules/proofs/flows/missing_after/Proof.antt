@@ -12,30 +12,24 @@ use Rattle.wholerules.proofs.flows.missing_after.Statement.{statement}
 use Rattle.wholerules.proofs.flows.missing_after.Tie as tie
 
 abbrev Inv-loop : tie.InvT-loop
-Inv-loop save reads writes sources segments partitions targets reached written found₀ t₀ found t =
+Inv-loop save reads writes sources segments partitions targets reached written all found₀ t₀ found t =
     (t ≤ targets) × (found ≡ foundAfter (partsOf segments partitions 0 [] save reads writes sources) t)
 
 abbrev μ-loop : tie.MeasureT-loop
-μ-loop save reads writes sources segments partitions targets reached written found₀ t₀ found t = targets - t
+μ-loop save reads writes sources segments partitions targets reached written all found₀ t₀ found t = targets - t
 
-reached-by-requires : tie.Need-reached-by-requires Inv-loop μ-loop
-reached-by-requires c κs = search needs
+slice-aggregate-reach-all : tie.Need-slice-aggregate-reach-all Inv-loop μ-loop
+slice-aggregate-reach-all c = search needs
 
-reached-by-requires-2 : tie.Need-reached-by-requires-2 Inv-loop μ-loop
-reached-by-requires-2 c κs = search needs
+slice-aggregate-reach-all-2 : tie.Need-slice-aggregate-reach-all-2 Inv-loop μ-loop
+slice-aggregate-reach-all-2 c = search needs
+
+reach-all-requires : tie.Need-reach-all-requires Inv-loop μ-loop
+reach-all-requires c κs = search needs
 
 loop-holds : tie.Need-loop-holds Inv-loop μ-loop
 unfolding foundAfter
 loop-holds c = (omega arith, refl)
-
-slice-aggregate-asked-into : tie.Need-slice-aggregate-asked-into Inv-loop μ-loop
-slice-aggregate-asked-into c = search needs
-
-slice-aggregate-asked-into-2 : tie.Need-slice-aggregate-asked-into-2 Inv-loop μ-loop
-slice-aggregate-asked-into-2 c = search needs
-
-asked-into-requires : tie.Need-asked-into-requires Inv-loop μ-loop
-asked-into-requires c κs = search needs
 
 cast-mask-at : tie.Need-cast-mask-at Inv-loop μ-loop
 cast-mask-at c = search needs
@@ -49,8 +43,16 @@ cast-worth c = search needs
 worth-requires : tie.Need-worth-requires Inv-loop μ-loop
 worth-requires c κs = search needs
 
-within-requires : tie.Need-within-requires Inv-loop μ-loop
-within-requires c κs = search needs
+slice-aggregate-target-lacks : tie.Need-slice-aggregate-target-lacks Inv-loop μ-loop
+slice-aggregate-target-lacks c = search needs
+
+slice-aggregate-target-lacks-2 : tie.Need-slice-aggregate-target-lacks-2 Inv-loop μ-loop
+slice-aggregate-target-lacks-2 c = search needs
+
+target-lacks-requires : tie.Need-target-lacks-requires Inv-loop μ-loop
+target-lacks-requires c κs =
+    let all = c .before .before .before .before .before .before .before .before .reach-all .ensures in
+    (search needs, (all .2, all .3))
 
 add-t : tie.Need-add-t Inv-loop μ-loop
 add-t c = search needs
@@ -60,20 +62,22 @@ loop-less c = search needs
 
 loop-again : tie.Need-loop-again Inv-loop μ-loop
 loop-again c =
-    let l = c .before .before .before .before .before .before .before in
-    let a = l .before .before .before .before .before .before .before .args in (
+    let l = c .before .before .before .before .before .before in
+    let reached = l .before .before .before .reach-all .ensures in
+    let a = l .before .before .before .before .before .before .before .before .before .before .args in (
       omega arith,
       found-next (partsOf (a .segments) (a .partitions) 0 [] (a .save .now) (a .reads .now) (a .writes .now) (a .sources .now)) (l .loop .t) _ _
           (l .loop .inv .1)
-          (rw (c .within .ensures, c .before .worth .ensures, c .before .before .mask-at .ensures, c .before .before .before .asked-into .ensures)
+          (c .target-lacks .ensures
+          ∙ rw (c .before .before .before .worth .ensures, c .before .before .before .before .mask-at .ensures)
           (target-told (a .segments) (a .partitions) (a .save .now) (a .reads .now) (a .writes .now) (a .sources .now) _ _
-          (l .before .before .reached-by .ensures) (l .before .reached-by2 .ensures) _ (omega arith))),
+          (reached .0) (reached .1) _ (omega arith))),
     )
 
 returns : tie.Need-returns Inv-loop μ-loop
 returns c =
     let l = c .before in
-    let q : l .loop .t ≡ l .before .before .before .before .before .before .before .args .targets = omega arith in
+    let q : l .loop .t ≡ l .before .before .before .before .before .before .before .before .before .before .args .targets = omega arith in
     l .loop .inv .1 ∙ rw q
 
 pub missing-after-spec : {M : Type 1} → statement M
@@ -82,17 +86,17 @@ missing-after-spec =
     (tie.spec
     Inv-loop
     μ-loop
-    reached-by-requires
-    reached-by-requires-2
+    slice-aggregate-reach-all
+    slice-aggregate-reach-all-2
+    reach-all-requires
     loop-holds
-    slice-aggregate-asked-into
-    slice-aggregate-asked-into-2
-    asked-into-requires
     cast-mask-at
     mask-at-requires
     cast-worth
     worth-requires
-    within-requires
+    slice-aggregate-target-lacks
+    slice-aggregate-target-lacks-2
+    target-lacks-requires
     add-t
     loop-less
     loop-again

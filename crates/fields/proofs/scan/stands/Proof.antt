@@ -3,8 +3,8 @@ use mathlib.Core.Path.{refl}
 use borrow.Author.Needs.{needs}
 use borrow.Author.Tests.{not-true, not-false}
 use Rattle.text.proofs.Laws.Words.{stands-short, stands-other, stands-whole}
-use Rattle.fields.proofs.word.stands.Statement.{statement}
-use Rattle.fields.proofs.word.stands.Tie as tie
+use Rattle.fields.proofs.scan.stands.Statement.{statement}
+use Rattle.fields.proofs.scan.stands.Tie as tie
 
 sub-if1 : tie.Need-sub-if1
 sub-if1 c = search needs
