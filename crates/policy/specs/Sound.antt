@@ -74,8 +74,8 @@ goodRight limits v p s = not (v .reads p s || v .writes p s) || passes limits v 
 unfoldable pub goodFlow : Limits → View → ℕ → ℕ → Bool
 goodFlow limits v s t = not (v .flow s t) || passes limits v (Flow s t)
 
--- The pairs go up to the limits: a bit past the last segment, or of a partition or segment that isn't there, is a pair that no
--- line gives.
+-- 02, S-6: "10 for a stray bit". The pairs go up to the limits: a bit past the last segment, or of a partition or segment
+-- that isn't there, is a pair that no line gives.
 unfoldable pub linesHold : Limits → View → Bool
 linesHold limits v =
     eachBelow (v .segments) (goodSegment limits v)
