@@ -24,3 +24,16 @@ pub fn kernels() -> Vec<Box<dyn Kernel>> {
         Box::new(archive::Archive),
     ]
 }
+
+/// A test on the reference and on each kernel.
+pub fn each(test: impl Fn(&dyn Kernel)) {
+    test(&reference::Reference);
+    for kernel in kernels() {
+        test(&*kernel);
+    }
+}
+
+/// The demonstration policy's record.
+pub fn demonstration() -> boundary::Policy {
+    reference::Reference.read(generate::policies::DEMONSTRATION.as_bytes()).policy
+}

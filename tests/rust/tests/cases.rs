@@ -7,20 +7,9 @@ use separation::generate::numbers::{is_place, rewrite};
 use separation::generate::policies::{full_in_hexadecimal, longest, policy, Shape, DEMONSTRATION};
 use separation::generate::texts::{hexadecimal_text_of, text, text_of};
 use separation::random::Random;
-use separation::reference::{report, Reference, SAVE};
-use separation::{kernels, show};
+use separation::reference::{report, SAVE};
+use separation::{demonstration, each, kernels, show};
 use std::mem::offset_of;
-
-fn each(test: impl Fn(&dyn Kernel)) {
-    test(&Reference);
-    for kernel in kernels() {
-        test(&*kernel);
-    }
-}
-
-fn demonstration() -> Policy {
-    Reference.read(DEMONSTRATION.as_bytes()).policy
-}
 
 fn refused(number: u32, line: u32) -> ReadResult {
     ReadResult { number, line, policy: Policy::ZERO }

@@ -8,18 +8,7 @@ use separation::generate::texts::{text, text_of};
 use separation::random::Random;
 use separation::reference::bytes::{self, Bytes};
 use separation::reference::{sound, Reference};
-use separation::{kernels, show};
-
-fn each(test: impl Fn(&dyn Kernel)) {
-    test(&Reference);
-    for kernel in kernels() {
-        test(&*kernel);
-    }
-}
-
-fn demonstration() -> Policy {
-    Reference.read(DEMONSTRATION.as_bytes()).policy
-}
+use separation::{demonstration, each, show};
 
 /// A least policy, the demonstration, some of every shape, the largest.
 fn some_sound() -> Vec<Policy> {
