@@ -7,12 +7,12 @@ use Rattle.policy.specs.View.{View}
 use Rattle.policy.specs.Tables.{Tables, viewOf}
 use Rattle.policy.specs.Read.{readOf}
 use Rattle.policy.specs.Sound.{soundOf}
-use Rattle.policy.specs.Bytes.{Bytes, readBytes, AreBytes, AreMasks, StandsFor}
+use Rattle.alike.specs.Bytes.{Bytes, readBytes, AreBytes, AreMasks, StandsFor}
 use Rattle.policy.proofs.Laws.Bools.{same-truth}
 use Rattle.policy.proofs.Accepted.{accepted}
-use Rattle.policy.proofs.Bytes.Stands.{views-same}
-use Rattle.policy.proofs.Bytes.SameText.{same-text}
-use Rattle.policy.proofs.Bytes.Alike.{sound-alike}
+use Rattle.alike.proofs.Bytes.Stands.{views-same}
+use Rattle.alike.proofs.Bytes.SameText.{same-text}
+use Rattle.alike.proofs.Bytes.Alike.{sound-alike}
 use Rattle.printer.proofs.Printed.{printed-single}
 use Rattle.calls.specs.Under.{Under, under}
 use Rattle.calls.specs.Start.{startAnswer, afterStart}

@@ -1,2 +1,3 @@
--- The theorem.
+-- Reading and soundness of the two records; that the operations answer alike.
+pub mod Bytes
 pub mod Alike

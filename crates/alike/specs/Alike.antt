@@ -9,7 +9,7 @@ use Rattle.policy.specs.declared.record.Refusal.{Refusal}
 use Rattle.policy.specs.Limits.{single}
 use Rattle.policy.specs.Tables.{Tables, viewOf}
 use Rattle.policy.specs.Sound.{Sound}
-use Rattle.policy.specs.Bytes.{Bytes, viewOfBytes, readBytes, SoundBytes, AreBytes, AreMasks, StandsFor}
+use Rattle.alike.specs.Bytes.{Bytes, viewOfBytes, readBytes, SoundBytes, AreBytes, AreMasks, StandsFor}
 use Rattle.machine.specs.Machine.{State}
 use Rattle.calls.specs.Under.{Under, under}
 use Rattle.calls.specs.Start.{startAnswer, afterStart}

@@ -1,3 +1,4 @@
 pub mod Masks
 pub mod Copied
 pub mod Sets
+pub mod Gather

@@ -1,2 +1,3 @@
--- Masks of bits.
+-- Masks of bits, and of several masks together.
 pub mod Masks
+pub mod Gather

@@ -14,3 +14,5 @@ pub use entry::slot_passes;
 pub use line::line_refusal;
 pub use order::key_of;
 pub use refusal::is_accepted;
+pub use refusal::line_number_of;
+pub use refusal::number_of;

@@ -23,5 +23,3 @@ pub mod Record
 -- Which records are sound, the test that decides it, and what it gives.
 pub mod Sound
 pub mod Lawful
--- The record with a byte for each pair, and when the two stand for the same.
-pub mod Bytes

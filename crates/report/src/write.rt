@@ -2,10 +2,10 @@
 use crate::masks::masks_of;
 use crate::put::put_row;
 use bits::widen;
+use linerules::line_number_of;
+use linerules::number_of;
 use policy::Policy;
 use policy::Reading;
-use reader::line_number_of;
-use reader::number_of;
 use schedule::round_ticks;
 ghost use mathlib.Core.Path.{_≡_};
 ghost use Prim.Native.Nat.{_≤_};

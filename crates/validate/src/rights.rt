@@ -10,37 +10,11 @@ ghost use Rattle.policy.specs.Below.{eachBelow, someBelow};
 ghost use Rattle.policy.specs.Limits.{single};
 ghost use Rattle.policy.specs.Sound.{goodFlow, goodRight};
 ghost use Rattle.wholerules.specs.Parts.{partsOf};
-ghost use Rattle.validate.specs.Masks.{bitsFit, gathered};
 use bits::bit_of;
 use bits::bits_below;
+use bits::bits_fit;
 use bits::has_bit;
-use bits::within;
 use bytes::byte_at;
-
-// The bits that some mask of two arrays has, from one place to another. No early exit: the compiler then looks at many at
-// once.
-fn bits_from<'a>(a: &'a [u64], b: &'a [u64], from: usize, to: usize) -> u64
-    requires { ⌜ (from ≤ to) × (to ≤ length (now a)) × (to ≤ length (now b)) ⌝ }
-    ensures { λ r. ⌜ r ≡ gathered (now (a .entry)) (now (b .entry)) from to ⌝ }
-{
-    let mut used: u64 = 0;
-    let mut i = from;
-    while i < to {
-        used = used | a[i] | b[i];
-        i += 1;
-    }
-    used
-}
-
-// Whether the first n masks of two arrays have bits that are there and not barred, and the others none.
-fn bits_fit<'a>(a: &'a [u64], b: &'a [u64], n: u8, there: u64, barred: u64) -> bool
-    requires { ⌜ (n ≤ length (now a)) × (length (now a) ≡ length (now b)) ⌝ }
-    ensures { λ r. ⌜ r ≡ bitsFit (now (a .entry)) (now (b .entry)) n there barred ⌝ }
-{
-    let used = bits_from(a, b, 0, n as usize);
-    let past = bits_from(a, b, n as usize, a.len());
-    within(used, there) & ((used & barred) == 0) & (past == 0)
-}
 
 // The save segments.
 fn save_bits(save: &[u8], partitions: u8) -> u64

@@ -4,36 +4,26 @@ use mathlib.Core.Path.{_≡_, refl, sym, _∙_, ap}
 use mathlib.Core.Bool.{Bool, true, false, cond, _&&_, _||_, or-false, or-assoc, true≢false}
 use mathlib.Core.List.{List}
 use native.Mathlib.Nat.{lt-of-le-of-lt}
-use native.Mathlib.Numerals.{add-one}
 use native.Mathlib.Omega.{arith}
 use native.Mathlib.Decide.{decLt}
-use borrow.Author.Tests.{eq-eqb, eqb-true, le-leb, lt-leb, leb-true}
+use borrow.Author.Tests.{eq-eqb, eqb-true, le-leb, leb-true}
 use lib.Bits.{bitAnd, bitOr, and-le-l, or-lt}
 use lib.Dec.{leb}
 use lib.ListN.{length, getD}
 use lib.Pow.{pow-pos}
+use Rattle.bits.specs.Gather.{bitsFit, gathered}
 use Rattle.bits.specs.Masks.{AllUnder, has}
 use Rattle.bits.proofs.Laws.Masks.{has-and, has-none, has-or, masks-same, within-at, within-of}
 use Rattle.policy.specs.Below.{someBelow}
 use Rattle.policy.proofs.Laws.Below.{some-at, some-found}
 use Rattle.policy.proofs.Laws.Bools.{and-left, and-right, not-so}
 use Rattle.policy.proofs.Laws.Tests.{parts}
-use Rattle.validate.specs.Masks.{bitsFit, gathered}
 
 -- Whether one of the masks at a place has a bit.
 abbrev pub oneHas : List ℕ → List ℕ → ℕ → ℕ → Bool
 oneHas a b i s = has (getD a i 0) s || has (getD b i 0) s
 
 module _ (a b : List ℕ) (from : ℕ) where
-  pub gather-none : (to : ℕ) → to ≤ from → 0 ≡ gathered a b from to
-  unfolding gathered
-  gather-none zero l = refl
-  gather-none (suc i) l = gather-none i (omega arith) ∙ rw (lt-leb from i (omega arith))
-
-  pub gather-more : (i used : ℕ) → from ≤ i → used ≡ gathered a b from i → bitOr (bitOr used (getD a i 0)) (getD b i 0) ≡ gathered a b from (i + 1)
-  unfolding gathered
-  gather-more i used l e = rw (add-one, le-leb from i l, e)
-
   hasIn : ℕ → ℕ → Bool
   hasIn s i = leb from i && oneHas a b i s
 

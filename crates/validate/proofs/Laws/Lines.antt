@@ -10,6 +10,7 @@ use lib.Bits.{bitOr, or-lt}
 use lib.Dec.{eqb, leb, ltb}
 use lib.ListN.{length, getD}
 use borrow.Author.Tests.{leb-false, lt-leb, ltb-true, eqb-false, ne-eqb, not-true}
+use Rattle.bits.specs.Gather.{bitsFit}
 use Rattle.bits.specs.Masks.{AllUnder, has, maskOf}
 use Rattle.bits.proofs.Laws.Masks.{has-mask, has-none, has-or, mask-under}
 use Rattle.bits.proofs.Laws.Sets.{has-below, mask-is}
@@ -26,7 +27,6 @@ use Rattle.policy.proofs.Laws.Bools.{and-both, and-left, or-left, or-right, not
 use Rattle.policy.proofs.Laws.Loops.{Told, told-found, told-more}
 use Rattle.policy.proofs.Laws.Tests.{parts, passes-both, passes-clear, passes-ranged}
 use Rattle.wholerules.specs.Parts.{partsOf}
-use Rattle.validate.specs.Masks.{bitsFit}
 use Rattle.validate.proofs.Laws.Gathered.{Allowed, fit-at, fit-of}
 
 -- The mask of the save segments: of no partition, and of one more.

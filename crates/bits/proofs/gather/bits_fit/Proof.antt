@@ -1,8 +1,8 @@
 -- The code makes the definition's tests in its order.
 use borrow.Author.Needs.{needs}
-use Rattle.validate.specs.Masks.{bitsFit}
-use Rattle.validate.proofs.rights.bits_fit.Statement.{statement}
-use Rattle.validate.proofs.rights.bits_fit.Tie as tie
+use Rattle.bits.specs.Gather.{bitsFit}
+use Rattle.bits.proofs.gather.bits_fit.Statement.{statement}
+use Rattle.bits.proofs.gather.bits_fit.Tie as tie
 
 bits-from-requires : tie.Need-bits-from-requires
 bits-from-requires c κs = search needs

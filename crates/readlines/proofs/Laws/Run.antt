@@ -26,7 +26,7 @@ use Rattle.policy.proofs.Accepted.{fine, kept-after}
 use Rattle.text.specs.Readers.{lineAt, lineRead}
 use Rattle.text.proofs.Laws.Cut.{end-least}
 use Rattle.text.proofs.Laws.Line.{line-left}
-use Rattle.reader.proofs.Laws.Lines.{linesFrom, lines-all, line-next, lines-end}
+use Rattle.readlines.proofs.Laws.Lines.{linesFrom, lines-all, line-next, lines-end}
 
 abbrev draft : Tables → Key → Draft
 draft tables before = record { tables = tables; before = before }

@@ -3,10 +3,10 @@ use Prim.Native.Nat.{_-_, _≤_}
 use mathlib.Core.Path.{_≡_, _∙_}
 use native.Mathlib.Omega.{arith}
 use borrow.Author.Needs.{needs}
-use Rattle.validate.specs.Masks.{gathered}
-use Rattle.validate.proofs.Laws.Gathered.{gather-none, gather-more}
-use Rattle.validate.proofs.rights.bits_from.Statement.{statement}
-use Rattle.validate.proofs.rights.bits_from.Tie as tie
+use Rattle.bits.specs.Gather.{gathered}
+use Rattle.bits.proofs.Laws.Gather.{gather-none, gather-more}
+use Rattle.bits.proofs.gather.bits_from.Statement.{statement}
+use Rattle.bits.proofs.gather.bits_from.Tie as tie
 
 abbrev Inv-loop : tie.InvT-loop
 Inv-loop a b from to used₀ i₀ used i = ((from ≤ i) × (i ≤ to)) × (used ≡ gathered a b from i)

@@ -12,9 +12,9 @@ use lib.ListN.{length, getD}
 use lib.Seq.{ext-getD}
 use Rattle.bits.specs.Masks.{has, AllUnder}
 use Rattle.bits.proofs.Laws.Masks.{masks-same}
 use Rattle.policy.specs.Modes.{givesRead, givesWrite}
 use Rattle.policy.specs.Tables.{Tables, viewOf}
-use Rattle.policy.specs.Bytes.{Bytes, pairAt, viewOfBytes, AreBytes, AreMasks, StandsFor}
+use Rattle.alike.specs.Bytes.{Bytes, pairAt, viewOfBytes, AreBytes, AreMasks, StandsFor}
 
 -- Lists of masks with the same bits.
 lists-same : (n w : ℕ) (xs ys : List ℕ) → length xs ≡ n → length ys ≡ n → AllUnder w xs → AllUnder w ys →

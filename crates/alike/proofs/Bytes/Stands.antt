@@ -12,11 +12,11 @@ use lib.ListN.{length, getD, set}
 use lib.Seq.{getD-set-same, getD-set-other}
 use Rattle.bits.specs.Masks.{has}
 use Rattle.text.specs.declared.line.Line.the-variants.{Segment, Partition, Right, Flow, Slot}
 use Rattle.policy.specs.Draft.{added, withBitAt, withSegment, withPartition, withSlot}
 use Rattle.policy.specs.Modes.{givesRead, givesWrite}
 use Rattle.policy.specs.Tables.{Segments, Partitions, Slots, Tables, viewOf}
-use Rattle.policy.specs.Bytes.{Bytes, pairAt, viewOfBytes, addedBytes, StandsFor}
+use Rattle.alike.specs.Bytes.{Bytes, pairAt, viewOfBytes, addedBytes, StandsFor}
 use Rattle.policy.proofs.Laws.Bits.{bit-at, bit-where}
 
 -- Two pairs of a segment below 32 with one place are one pair.
 apart : (q u p s : ℕ) → u < 32 → s < 32 → (pairAt q u ≡ pairAt p s → ⊥) → eqb q p && eqb u s ≡ false

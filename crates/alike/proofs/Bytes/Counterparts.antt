@@ -12,9 +12,9 @@ use lib.Dec.{eqb, ltb}
 use lib.ListN.{length, getD, List·getD-eq-default}
 use Rattle.bits.specs.Masks.{has, maskOf, AllUnder}
 use Rattle.bits.proofs.Laws.Masks.{has-past, has-none, has-mask, mask-under}
 use Rattle.policy.specs.Modes.{givesRead, givesWrite, modeIn}
 use Rattle.policy.specs.Tables.{Tables, viewOf}
-use Rattle.policy.specs.Bytes.{Bytes, pairAt, viewOfBytes, AreBytes, AreMasks, StandsFor}
+use Rattle.alike.specs.Bytes.{Bytes, pairAt, viewOfBytes, AreBytes, AreMasks, StandsFor}
 
 -- The list of what the numbers below n are worth.
 entries : ℕ → (ℕ → ℕ) → List ℕ

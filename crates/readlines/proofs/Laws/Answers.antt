@@ -15,7 +15,7 @@ use Rattle.policy.specs.Tables.{Tables, zeros, viewOf}
 use Rattle.policy.specs.Read.{Answer, answer, wholeRefusal, readLines}
 use Rattle.policy.specs.Whole.{incomplete, codeUnreadable, flowMissing}
 use Rattle.wholerules.specs.Parts.{partsOf}
-use Rattle.reader.proofs.Laws.Run.{Reached, stops-end}
+use Rattle.readlines.proofs.Laws.Run.{Reached, stops-end}
 
 abbrev reading : Refusal → Tables → Answer
 reading refusal tables = record { refusal = refusal; tables = tables }

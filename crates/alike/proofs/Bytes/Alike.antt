@@ -2,16 +2,16 @@
 -- for what it gives on the other, and there is no second record that does.
 use mathlib.Core.Path.{_≡_, sym, _∙_, ap}
 use mathlib.Core.Logic.{_↔_}
 use Rattle.policy.specs.declared.record.Refusal.the-variants.{Accepted}
 use Rattle.policy.specs.Limits.{single}
 use Rattle.policy.specs.Tables.{Tables}
 use Rattle.policy.specs.Read.{Answer, readOf}
 use Rattle.policy.specs.Sound.{Sound}
-use Rattle.policy.specs.Bytes.{Bytes, BytesAnswer, readBytes, SoundBytes, AreBytes, AreMasks, StandsFor}
+use Rattle.alike.specs.Bytes.{Bytes, BytesAnswer, readBytes, SoundBytes, AreBytes, AreMasks, StandsFor}
 use Rattle.policy.proofs.Entries.{lengths, fit}
 use Rattle.policy.proofs.Accepted.{accepted}
-use Rattle.policy.proofs.Bytes.Only.{masks-only, bytes-only}
-use Rattle.policy.proofs.Bytes.SameText.{SameAnswer, same-text}
+use Rattle.alike.proofs.Bytes.Only.{masks-only, bytes-only}
+use Rattle.alike.proofs.Bytes.SameText.{SameAnswer, same-text}
 
 sound-masks : (t : Tables) → Sound single t → AreMasks t
 sound-masks t s =

@@ -24,7 +24,7 @@ use text::Line;
 use wholerules::record_refusal;
 
 // A refusal comes with the record of zeros.
-pub(crate) fn refused(refusal: Refusal) -> Reading
+pub fn refused(refusal: Refusal) -> Reading
     ensures { λ r. ⌜ answerOf r ≡ answer single refusal (zeros single) ⌝ }
 {
     Reading {
@@ -35,7 +35,7 @@ pub(crate) fn refused(refusal: Refusal) -> Reading
 
 // The answer for a text that is not too long. What a line adds is stored in the loop itself: a record that is handed by
 // value to a function and back is copied for each line.
-pub(crate) fn read_lines(text: &[u8]) -> Reading
+pub fn read_lines(text: &[u8]) -> Reading
     requires { ⌜ length (now text) ≤ single .text ⌝ }
     ensures { λ r. ⌜ answerOf r ≡ readLines single 1 (begun single) (linesOf (now (text .entry))) ⌝ }
 {

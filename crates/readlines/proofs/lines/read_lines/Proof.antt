@@ -13,12 +13,12 @@ use Rattle.policy.specs.Record.{tablesOf}
 use Rattle.policy.specs.Tables.{viewOf}
 use Rattle.linerules.specs.Parts.{Fits}
 use Rattle.linerules.proofs.Laws.Fits.{segment-fits, partition-fits, right-fits, flow-fits, slot-fits}
-use Rattle.reader.proofs.Laws.Answers.{end-record, end-zeros}
-use Rattle.reader.proofs.Laws.Run.{Reached, reached-first}
-use Rattle.reader.proofs.Laws.Stored.{stored-right}
-use Rattle.reader.proofs.Laws.Step.{step-refused, step-fits, step-more, step-shorter}
-use Rattle.reader.proofs.lines.read_lines.Statement.{statement}
-use Rattle.reader.proofs.lines.read_lines.Tie as tie
+use Rattle.readlines.proofs.Laws.Answers.{end-record, end-zeros}
+use Rattle.readlines.proofs.Laws.Run.{Reached, reached-first}
+use Rattle.readlines.proofs.Laws.Stored.{stored-right}
+use Rattle.readlines.proofs.Laws.Step.{step-refused, step-fits, step-more, step-shorter}
+use Rattle.readlines.proofs.lines.read_lines.Statement.{statement}
+use Rattle.readlines.proofs.lines.read_lines.Tie as tie
 
 abbrev Inv-loop : tie.InvT-loop
 Inv-loop text policy₀ before₀ c₀ policy before c = Reached text (tablesOf policy) before (c .at) (c .line)

@@ -5,8 +5,8 @@ use borrow.Author.Needs.{needs}
 use Rattle.policy.specs.Limits.{single}
 use Rattle.policy.specs.Tables.{Tables, zeros}
 use Rattle.policy.specs.Refusals.{isAccepted}
-use Rattle.reader.proofs.lines.refused.Statement.{statement}
-use Rattle.reader.proofs.lines.refused.Tie as tie
+use Rattle.readlines.proofs.lines.refused.Statement.{statement}
+use Rattle.readlines.proofs.lines.refused.Tie as tie
 
 cond-same : (b : Bool) (p : Tables) → cond b p p ≡ p
 cond-same true p = refl

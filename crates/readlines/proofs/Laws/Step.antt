@@ -23,7 +23,7 @@ use Rattle.text.specs.Readers.{lineAt, lineRead}
 use Rattle.text.specs.declared.read.LineRead.{LineRead}
 use Rattle.linerules.specs.Parts.{partView, Fits}
 use Rattle.linerules.proofs.Laws.Parts.{part-same}
-use Rattle.reader.proofs.Laws.Run.{Reached, stops-refused, reached-more, moves-on}
+use Rattle.readlines.proofs.Laws.Run.{Reached, stops-refused, reached-more, moves-on}
 
 id-next : (before : Key) (v : View) (line : Line) → outOfOrder before v line ≡ false → idSkips v line ≡ false
 unfolding outOfOrder

@@ -18,26 +18,26 @@ use Rattle.text.specs.Number.{number}
 use Rattle.text.specs.declared.line.Line.{Line}
 use Rattle.text.specs.declared.line.Line.the-variants.{Bad, Segment, Partition, Right, Flow, Slot}
 use Rattle.text.proofs.Laws.Letters.{Lettered, AllLettered, lines-lettered}
 use Rattle.policy.specs.declared.record.Key.{Key}
 use Rattle.policy.specs.declared.record.Refusal.{Refusal}
 use Rattle.policy.specs.declared.record.Refusal.the-variants.{TooLong}
 use Rattle.policy.specs.Limits.{single}
 use Rattle.policy.specs.View.{View}
 use Rattle.policy.specs.Modes.{givesRead, givesWrite}
 use Rattle.policy.specs.Order.{keyOf, ascends, outOfOrder}
 use Rattle.policy.specs.Range.{outOfRange}
 use Rattle.policy.specs.Refusals.{isAccepted}
 use Rattle.policy.specs.Tables.{Tables, zeros, viewOf}
 use Rattle.policy.specs.Draft.{Draft, added, begun, noLine}
 use Rattle.policy.specs.Read.{isBad, Answer, answer, tooLong, lineRefusal, wholeRefusal, readLines, readBy, readOf}
-use Rattle.policy.specs.Bytes.{Bytes, pairAt, viewOfBytes, zeroBytes, addedBytes, BytesAnswer, answerBytes, readBytesFrom, readBytes, AreBytes, StandsFor}
+use Rattle.alike.specs.Bytes.{Bytes, pairAt, viewOfBytes, zeroBytes, addedBytes, BytesAnswer, answerBytes, readBytesFrom, readBytes, AreBytes, StandsFor}
 use Rattle.policy.proofs.Laws.Bits.{bit-where}
 use Rattle.policy.proofs.Laws.Bools.{not-so}
 use Rattle.policy.proofs.Laws.Tests.{parts}
 use Rattle.policy.proofs.Laws.Zeros.{zero-at}
 use Rattle.policy.proofs.Kept.{Kept, Passing, kept-none}
 use Rattle.policy.proofs.Accepted.{Fine, fine, kept-after}
-use Rattle.policy.proofs.Bytes.Stands.{segment-stands, partition-stands, right-stands, flow-stands, slot-stands, views-same}
+use Rattle.alike.proofs.Bytes.Stands.{segment-stands, partition-stands, right-stands, flow-stands, slot-stands, views-same}
 
 -- A pair of right lines that is not above the last line: right lines are reached, and if the last one is a right line, the pair is not above
 -- its pair.
