@@ -1,10 +1,8 @@
 -- The two records are sound together and have one view, so the operations are asked under the same, and answer alike.
-use mathlib.Core.Path.{_≡_, sym, _∙_, ap}
-use mathlib.Core.Bool.{Bool, true}
-use mathlib.Core.Logic.{_↔_}
+use mathlib.Core.Path.{_≡_, _∙_, ap}
 use Rattle.policy.specs.Limits.{single}
 use Rattle.policy.specs.View.{View}
-use Rattle.policy.specs.Tables.{Tables, viewOf}
+use Rattle.policy.specs.Tables.{Tables}
 use Rattle.policy.specs.Read.{readOf}
 use Rattle.policy.specs.Sound.{soundOf}
 use Rattle.alike.specs.Bytes.{Bytes, readBytes, AreBytes, AreMasks, StandsFor}

@@ -7,6 +7,7 @@ use text::Line;
 ghost use Prim.Native.Nat.{_+_, _<_, _≤_};
 ghost use mathlib.Core.Path.{_≡_};
 ghost use mathlib.Core.List.{[]};
+ghost use lib.ListN.{length};
 ghost use Rattle.policy.specs.Clash.{overlapsEarlier, sharesEarlier, partitionClashes, isSave, clashes};
 ghost use Rattle.policy.specs.Limits.{single};
 ghost use Rattle.linerules.specs.Parts.{endOf, placed};
@@ -58,12 +59,14 @@ fn shares_earlier<'a>(
     false
 }
 
+// The save segments are indexed bare: a right line looks at each.
 fn is_save<'a>(partitions: u8, saves: &'a [u8], segment: u32) -> bool
+    requires { ⌜ partitions ≤ length (now saves) ⌝ }
     ensures { λ r. ⌜ r ≡ isSave (placed 0 partitions [] [] [] (now (saves .entry))) segment ⌝ }
 {
     let mut i: u8 = 0;
     while i < partitions {
-        if segment == byte_at(saves, i as usize) as u32 {
+        if segment == saves[i as usize] as u32 {
             return true;
         }
         i += 1;
@@ -100,6 +103,7 @@ pub(crate) fn clashes<'a>(
     line: Line,
 ) -> bool
     requires { ⌜ endOf line ≤ single .memory ⌝ }
+    requires { ⌜ partitions ≤ length (now saves) ⌝ }
     ensures { λ r. ⌜ r ≡
         clashes
         (placed

@@ -5,7 +5,9 @@ use crate::range::out_of_range;
 use policy::Key;
 use policy::Refusal;
 use text::Line;
+ghost use Prim.Native.Nat.{_≤_};
 ghost use mathlib.Core.Path.{_≡_};
+ghost use lib.ListN.{length};
 ghost use Rattle.policy.specs.Limits.{single};
 ghost use Rattle.policy.specs.Read.{isBad, lineRefusal};
 ghost use Rattle.linerules.specs.Parts.{partView};
@@ -36,6 +38,7 @@ pub fn line_refusal<'a>(
     line: Line,
     n: u32,
 ) -> Refusal
+    requires { ⌜ partitions ≤ length (now save) ⌝ }
     ensures { λ r. ⌜ r ≡
         lineRefusal single n before
         (partView

@@ -11,7 +11,7 @@ use Rattle.alike.specs.Bytes.{Bytes, BytesAnswer, readBytes, SoundBytes,
 use Rattle.policy.proofs.Entries.{lengths, fit}
 use Rattle.policy.proofs.Accepted.{accepted}
 use Rattle.alike.proofs.Bytes.Only.{masks-only, bytes-only}
-use Rattle.alike.proofs.Bytes.SameText.{SameAnswer, same-text}
+use Rattle.alike.proofs.Bytes.SameText.{same-text}
 
 sound-masks : (t : Tables) → Sound single t → AreMasks t
 sound-masks t s =

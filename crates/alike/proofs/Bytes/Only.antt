@@ -1,8 +1,8 @@
 -- A byte record stands for one mask record and is stood for by no other, and the other way round: a mask is known by its bits, and a byte by
 -- what it gives.
-use Prim.Native.Nat.{ℕ, zero, suc, _+_, _<_, _≤_, _/_, _%_}
-use mathlib.Core.Path.{_≡_, refl, sym, _∙_, ap}
-use mathlib.Core.Bool.{Bool, true, cond, _&&_}
+use Prim.Native.Nat.{ℕ, zero, suc, _+_, _≤_, _/_, _%_}
+use mathlib.Core.Path.{_≡_, refl, sym, _∙_}
+use mathlib.Core.Bool.{Bool, cond, _&&_}
 use mathlib.Core.List.{List}
 use native.Mathlib.Nat.{div-add-mod, mod-lt}
 use native.Mathlib.Omega.{arith}
@@ -13,8 +13,8 @@ use lib.Seq.{ext-getD}
 use Rattle.bits.specs.Masks.{has, AllUnder}
 use Rattle.bits.proofs.Laws.Masks.{masks-same}
 use Rattle.policy.specs.Modes.{givesRead, givesWrite}
-use Rattle.policy.specs.Tables.{Tables, viewOf}
-use Rattle.alike.specs.Bytes.{Bytes, pairAt, viewOfBytes, AreBytes, AreMasks, StandsFor}
+use Rattle.policy.specs.Tables.{Tables}
+use Rattle.alike.specs.Bytes.{Bytes, pairAt, AreBytes, AreMasks, StandsFor}
 
 -- Lists of masks with the same bits.
 lists-same : (n w : ℕ) (xs ys : List ℕ) → length xs ≡ n → length ys ≡ n → AllUnder w xs → AllUnder w ys →

@@ -1,7 +1,7 @@
 -- 02, S-6: old and new records from the same text. Line by line the two records stand for the same, so no rule tells them apart; a right
 -- line's pair is new in both, since no pair above the last one stands (rule 3).
 use Prim.Native.Nat.{ℕ, _+_, _<_, _≤_}
-use mathlib.Core.Path.{_≡_, refl, sym, _∙_, ap}
+use mathlib.Core.Path.{_≡_, refl, sym, _∙_}
 use mathlib.Core.Bool.{Bool, true, false, cond, _&&_, _||_, not, and-false, or-false, true≢false}
 use mathlib.Core.List.{List, [], _∷_}
 use mathlib.Core.Logic.{_⊎_, inl, inr, ⊎-elim}
@@ -30,7 +30,7 @@ use Rattle.policy.specs.Refusals.{isAccepted}
 use Rattle.policy.specs.Tables.{Tables, zeros, viewOf}
 use Rattle.policy.specs.Draft.{Draft, added, begun, noLine}
 use Rattle.policy.specs.Read.{isBad, Answer, answer, tooLong, lineRefusal, wholeRefusal, readLines, readBy, readOf}
-use Rattle.alike.specs.Bytes.{Bytes, pairAt, viewOfBytes, zeroBytes, addedBytes, BytesAnswer, answerBytes, readBytesFrom, readBytes, AreBytes, StandsFor}
+use Rattle.alike.specs.Bytes.{Bytes, pairAt, zeroBytes, addedBytes, BytesAnswer, answerBytes, readBytesFrom, readBytes, AreBytes, StandsFor}
 use Rattle.policy.proofs.Laws.Bits.{bit-where}
 use Rattle.policy.proofs.Laws.Bools.{not-so}
 use Rattle.policy.proofs.Laws.Tests.{parts}

@@ -1,6 +1,6 @@
 -- A line adds to the bytes and to the masks what stands for the same: a byte set stands for the bits set, and for no other pair. A
 -- right line's pair must be a new one, since its byte is set where bits are added.
-use Prim.Native.Nat.{ℕ, _<_, _≤_}
+use Prim.Native.Nat.{ℕ, _<_}
 use mathlib.Core.Path.{_≡_, refl, sym, _∙_, ap, fun-ext}
 use mathlib.Core.Bool.{Bool, true, false, cond, _&&_, _||_, and-false, and-comm, or-false, or-true}
 use mathlib.Core.List.{List}

@@ -2,16 +2,14 @@
 -- the draft, or there is none.
 use Prim.Native.Nat.{ℕ, _+_, _<_, _≤_}
 use mathlib.Core.Path.{_≡_, sym, _∙_, ap}
-use mathlib.Core.Bool.{Bool, true, false, cond, true≢false}
+use mathlib.Core.Bool.{true, false, true≢false}
 use mathlib.Core.List.{List}
 use native.Mathlib.Omega.{arith}
 use borrow.Author.Tests.{lt-ltb}
-use lib.Dec.{ltb}
 use lib.ListN.{length}
-use Rattle.text.specs.Cut.{lineEnd, fieldsOf}
-use Rattle.text.specs.Lines.{lineOf, linesOf}
-use Rattle.text.specs.Number.{number}
-use Rattle.text.specs.Places.{pieceAt, endAt}
+use Rattle.text.specs.Cut.{lineEnd}
+use Rattle.text.specs.Lines.{linesOf}
+use Rattle.text.specs.Places.{endAt}
 use Rattle.text.specs.declared.line.Line.{Line}
 use Rattle.text.specs.declared.line.Line.the-variants.{Bad}
 use Rattle.policy.specs.declared.record.Key.{Key}

@@ -1,10 +1,9 @@
 -- One line read, as the code has it: what the line says, where the place is left, and the answer of the line's rules are
 -- those of the definition.
-use Prim.Native.Nat.{ℕ, _<_, _≤_}
+use Prim.Native.Nat.{ℕ, _<_}
 use mathlib.Core.Path.{_≡_, sym, _∙_, ap}
 use mathlib.Core.Bool.{true, false, _||_}
 use mathlib.Core.List.{List}
-use native.Mathlib.Omega.{arith}
 use lib.ListN.{length}
 use Rattle.text.specs.Lines.{linesOf}
 use Rattle.text.specs.declared.line.Line.{Line}

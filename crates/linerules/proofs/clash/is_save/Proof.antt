@@ -1,5 +1,7 @@
 -- No partition passed has the segment as its save, and the first that does is found.
 use Prim.Native.Nat.{_-_}
+use mathlib.Core.Path.{refl}
+use native.Mathlib.Omega.{arith}
 use borrow.Author.Tests.{eq-eqb, ne-eqb}
 use borrow.Author.Needs.{needs}
 use lib.Dec.{eqb}
@@ -17,17 +19,17 @@ abbrev μ-loop : tie.MeasureT-loop
 loop-holds : tie.Need-loop-holds Inv-loop μ-loop
 loop-holds c = search-none _ _
 
-cast-byte-at : tie.Need-cast-byte-at Inv-loop μ-loop
-cast-byte-at c = search needs
-
-byte-at-requires : tie.Need-byte-at-requires Inv-loop μ-loop
-byte-at-requires c κs = search needs
-
 cast-if1 : tie.Need-cast-if1 Inv-loop μ-loop
 cast-if1 c = search needs
 
+shared-slice-read-if1 : tie.Need-shared-slice-read-if1 Inv-loop μ-loop
+shared-slice-read-if1 c = search needs
+
+cast-if1-2 : tie.Need-cast-if1-2 Inv-loop μ-loop
+cast-if1-2 c = omega (arith, c .shared-slice-known .given (c .before .before .loop .i))
+
 returns : tie.Need-returns Inv-loop μ-loop
-returns c = search-found _ _ _ _ (c .before .before .loop-test .taken) (rw (c .before .byte-at .ensures)) (eq-eqb _ _ (c .if1 .taken))
+returns c = search-found _ _ _ _ (c .before .before .loop-test .taken) refl (eq-eqb _ _ (c .if1 .taken))
 
 add-i : tie.Need-add-i Inv-loop μ-loop
 add-i c = search needs
@@ -36,7 +38,7 @@ loop-less : tie.Need-loop-less Inv-loop μ-loop
 loop-less c = search needs
 
 loop-again : tie.Need-loop-again Inv-loop μ-loop
-loop-again c = search-more _ _ _ _ (c .before .before .before .loop .inv) (c .before .before .loop-test .taken) (rw (c .before .byte-at .ensures)) (ne-eqb _ _ (c .if1 .left))
+loop-again c = search-more _ _ _ _ (c .before .before .before .loop .inv) (c .before .before .loop-test .taken) refl (ne-eqb _ _ (c .if1 .left))
 
 returns-2 : tie.Need-returns-2 Inv-loop μ-loop
 returns-2 c = search-done _ _ _ (c .before .loop .inv) (c .loop-test .left)
@@ -48,9 +50,9 @@ is-save-spec =
     Inv-loop
     μ-loop
     loop-holds
-    cast-byte-at
-    byte-at-requires
     cast-if1
+    shared-slice-read-if1
+    cast-if1-2
     returns
     add-i
     loop-less

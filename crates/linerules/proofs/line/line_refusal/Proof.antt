@@ -30,7 +30,8 @@ returns-3 c =
     rw (line-part, ← bad .before .is-bad .ensures, bad .if1 .left, ← order .before .out-of-order .ensures, order .if2 .left, ← c .before .out-of-range .ensures, c .if3 .taken)
 
 clashes-requires : tie.Need-clashes-requires
-clashes-requires c κs = range-ends _ _ (sym (c .before .out-of-range .ensures) ∙ c .if3 .left)
+clashes-requires c κs =
+    (range-ends _ _ (sym (c .before .out-of-range .ensures) ∙ c .if3 .left), search needs)
 
 returns-4 : tie.Need-returns-4
 returns-4 c =

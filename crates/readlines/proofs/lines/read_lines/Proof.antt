@@ -38,7 +38,9 @@ line-from-requires c κs =
     (head .loop .inv .within, omega (arith, head .loop .inv .counted, c .if1 .taken, head .before .before .before .pre))
 
 line-refusal-requires : tie.Need-line-refusal-requires Inv-loop μ-loop
-line-refusal-requires c κs = search needs
+line-refusal-requires c κs =
+    let few = c .before .before .before .before .before .before .before .before .before .before .before .before .loop .inv .kept .counts .partitions in
+    search needs
 
 is-accepted-requires : tie.Need-is-accepted-requires Inv-loop μ-loop
 is-accepted-requires c κs = search needs

@@ -100,7 +100,7 @@ impl<K: Kernel> Timed for K {
         }
         let begun = Instant::now();
         for _ in 0..calls {
-            black_box(Kernel::read(self, black_box(text)));
+            black_box(&Kernel::read(self, black_box(text)));
         }
         ns(begun, calls)
     }
