@@ -1,4 +1,4 @@
--- The two records are sound together and have one view, so the operations are asked under the same, and answer alike.
+-- Each record has one counterpart. The two are sound together and have one view, so the operations are asked under the same, and answer alike.
 use mathlib.Core.Path.{_≡_, _∙_, ap}
 use Rattle.policy.specs.Limits.{single}
 use Rattle.policy.specs.View.{View}
@@ -11,13 +11,15 @@ use Rattle.policy.proofs.Accepted.{accepted}
 use Rattle.alike.proofs.Bytes.Stands.{views-same}
 use Rattle.alike.proofs.Bytes.SameText.{same-text}
 use Rattle.alike.proofs.Bytes.Alike.{sound-alike}
+use Rattle.alike.proofs.Bytes.Only.{masks-only, bytes-only}
+use Rattle.alike.proofs.Bytes.Counterparts.{masksOf, masks-form, masks-stand, bytesOf, bytes-form, bytes-stand}
 use Rattle.printer.proofs.Printed.{printed-single}
 use Rattle.calls.specs.Under.{Under, under}
 use Rattle.calls.specs.Start.{startAnswer, afterStart}
 use Rattle.calls.specs.Pend.{pendOutcome, afterPend}
 use Rattle.calls.specs.Run.{runAnswer, afterRun}
 use Rattle.report.specs.Report.{reportWith, reportOf}
-use Rattle.alike.specs.Alike.{UnderBytes, AllAlike, ReportAlike}
+use Rattle.alike.specs.Alike.{OneMasks, OneBytes, UnderBytes, AllAlike, ReportAlike}
 
 under-same : (b : Bytes) (t : Tables) → AreBytes b → AreMasks t → StandsFor b t → (u : Under) → UnderBytes b u → u ≡ under single t
 under-same b t bytes masks h u k =
@@ -40,6 +42,24 @@ alike b t bytes masks h u k =
       run = λ x n. ap (λ (w : Under). runAnswer w x n) same;
       run-state = λ x n. ap (λ (w : Under). afterRun w x n) same;
       report = λ r. ap (λ (v : View). reportWith r v) (views-same b t h);
+    }
+
+pub one-masks : OneMasks
+one-masks b bytes =
+    record {
+      masks = masksOf b;
+      form = masks-form b;
+      stands = masks-stand b bytes;
+      only = λ t m h. masks-only b t (masksOf b) m (masks-form b) h (masks-stand b bytes);
+    }
+
+pub one-bytes : OneBytes
+one-bytes t masks unused =
+    record {
+      bytes = bytesOf t;
+      form = bytes-form t;
+      stands = bytes-stand t masks unused;
+      only = λ b a h. bytes-only b (bytesOf t) t a (bytes-form t) h (bytes-stand t masks unused);
     }
 
 pub report-alike : ReportAlike

@@ -8,14 +8,43 @@ use mathlib.Core.Logic.{_↔_}
 use Rattle.policy.specs.declared.record.Refusal.{Refusal}
 use Rattle.policy.specs.Limits.{single}
 use Rattle.policy.specs.Tables.{Tables, viewOf}
+use Rattle.policy.specs.Read.{Answer, readOf}
 use Rattle.policy.specs.Sound.{Sound}
-use Rattle.alike.specs.Bytes.{Bytes, viewOfBytes, readBytes, SoundBytes, AreBytes, AreMasks, StandsFor}
+use Rattle.alike.specs.Bytes.{Bytes, BytesAnswer, viewOfBytes, readBytes, SoundBytes, AreBytes, AreMasks, StandsFor}
 use Rattle.machine.specs.Machine.{State}
 use Rattle.calls.specs.Under.{Under, under}
 use Rattle.calls.specs.Start.{startAnswer, afterStart}
 use Rattle.calls.specs.Pend.{pendOutcome, afterPend}
 use Rattle.calls.specs.Run.{runAnswer, afterRun}
 use Rattle.report.specs.Report.{reportWith, reportOf}
+
+-- "from the same text": the same refusal with the same line, and records that stand for the same rights and flows.
+pub record SameAnswer (a : BytesAnswer) (c : Answer) : Type 0 where
+  pub refusal : a .refusal ≡ c .refusal
+  pub stands : StandsFor (a .bytes) (c .tables)
+  pub bytes : AreBytes (a .bytes)
+
+abbrev pub SameText : Type 0
+SameText = (text : List ℕ) → SameAnswer (readBytes text) (readOf single text)
+
+-- Each record has one counterpart and no other: a byte record its masks, and a record of masks its bytes.
+pub record MasksOf (b : Bytes) : Type 0 where
+  pub masks : Tables
+  pub form : AreMasks masks
+  pub stands : StandsFor b masks
+  pub only : (t : Tables) → AreMasks t → StandsFor b t → t ≡ masks
+
+pub record BytesOf (t : Tables) : Type 0 where
+  pub bytes : Bytes
+  pub form : AreBytes bytes
+  pub stands : StandsFor bytes t
+  pub only : (b : Bytes) → AreBytes b → StandsFor b t → b ≡ bytes
+
+abbrev pub OneMasks : Type 0
+OneMasks = (b : Bytes) → AreBytes b → MasksOf b
+
+abbrev pub OneBytes : Type 0
+OneBytes = (t : Tables) → AreMasks t → t .unused ≡ 0 → BytesOf t
 
 -- What the operations ask of a byte record: the single head's limits, its view, and whether it is sound.
 pub record UnderBytes (b : Bytes) (u : Under) : Type 0 where
@@ -25,7 +54,7 @@ pub record UnderBytes (b : Bytes) (u : Under) : Type 0 where
 
 -- Whether the two are sound, what the rules and the machine see of them, and what the operations answer: number, memory and
 -- place; policycheck's report.
-pub record Alike (b : Bytes) (u : Under) (t : Tables) : Type 0 where
+pub record AnswersAlike (b : Bytes) (u : Under) (t : Tables) : Type 0 where
   pub soundness : SoundBytes b ↔ Sound single t
   pub views : viewOfBytes b ≡ viewOf t
   pub start : (memory : List ℕ) → startAnswer u memory ≡ startAnswer (under single t) memory
@@ -41,7 +70,7 @@ pub record Alike (b : Bytes) (u : Under) (t : Tables) : Type 0 where
 -- For each byte record whose bytes are those that 01 names, and the masks that stand for the same.
 abbrev pub AllAlike : Type 0
 AllAlike =
-    (b : Bytes) (t : Tables) → AreBytes b → AreMasks t → StandsFor b t → (u : Under) → UnderBytes b u → Alike b u t
+    (b : Bytes) (t : Tables) → AreBytes b → AreMasks t → StandsFor b t → (u : Under) → UnderBytes b u → AnswersAlike b u t
 
 -- policycheck's report on a text, by the byte record.
 abbrev pub reportOfBytes : List ℕ → List ℕ

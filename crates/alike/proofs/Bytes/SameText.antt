@@ -29,7 +29,8 @@ use Rattle.policy.specs.Range.{outOfRange}
 use Rattle.policy.specs.Refusals.{isAccepted}
 use Rattle.policy.specs.Tables.{Tables, zeros, viewOf}
 use Rattle.policy.specs.Draft.{Draft, added, begun, noLine}
-use Rattle.policy.specs.Read.{isBad, Answer, answer, tooLong, lineRefusal, wholeRefusal, readLines, readBy, readOf}
+use Rattle.policy.specs.Read.{isBad, Answer, answer, tooLong, lineRefusal, wholeRefusal, readLines, readBy}
+use Rattle.alike.specs.Alike.{SameAnswer, SameText}
 use Rattle.alike.specs.Bytes.{Bytes, pairAt, zeroBytes, addedBytes, BytesAnswer, answerBytes, readBytesFrom, readBytes, AreBytes, StandsFor}
 use Rattle.policy.proofs.Laws.Bits.{bit-where}
 use Rattle.policy.proofs.Laws.Bools.{not-so}
@@ -249,12 +250,6 @@ module _ (b : Bytes) (t : Tables) (before : Key) (h : Both b t before) where
         fresh = fresh-after line (f .said) (f .passing);
       }
 
--- The two answers: the same refusal with the same line, and records that stand for the same.
-pub record SameAnswer (a : BytesAnswer) (c : Answer) : Type 0 where
-  pub refusal : a .refusal ≡ c .refusal
-  pub stands : StandsFor (a .bytes) (c .tables)
-  pub bytes : AreBytes (a .bytes)
-
 answers-same : (b : Bytes) (t : Tables) (key : Key) → Both b t key → (r : Refusal) → SameAnswer (answerBytes r b) (answer single r t)
 answers-same b t key h r = go (isAccepted r)
   where
@@ -287,7 +282,7 @@ lines-same (line ∷ lines) n b t before few h =
     go true a more = more (both-after b t before h line (few .0) (fine single n before (viewOf t) line a))
     go false a more = answers-same zeroBytes (zeros single) noLine both-none refusal
 
-pub same-text : (text : List ℕ) → SameAnswer (readBytes text) (readOf single text)
+pub same-text : SameText
 unfolding readBytes readBy
 same-text text = go (tooLong single text)
   where
