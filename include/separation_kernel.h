@@ -8,10 +8,11 @@
 #include <stddef.h>
 #include <stdint.h>
 
-/* 2.0: rights and flows are masks; a record of 1.x does not fit. */
+/* 2.0: rights and flows are masks; a record of 1.x does not fit.
+ * 2.1: opcodes 13 and 14 load and store four bytes. Both were faults, so memory may now act otherwise under the same policy. */
 #define SEPARATION_KERNEL_VERSION_MAJOR 2
-#define SEPARATION_KERNEL_VERSION_MINOR 0
-#define SEPARATION_KERNEL_VERSION "2.0"
+#define SEPARATION_KERNEL_VERSION_MINOR 1
+#define SEPARATION_KERNEL_VERSION "2.1"
 
 /* The bytes of memory that Start, Pend and Run take, and the most bytes of a policy text. */
 #define SK_MEMORY_BYTES 16384

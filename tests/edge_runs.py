@@ -3,45 +3,16 @@
 
     edge_runs.py ROOT     writes crates/runs/data/scenarios and crates/runs/stdout below the repository ROOT
 
-scenarios.py has the form of both files; the expected answers come from machine_reference.py.
+scenarios.py has the form of both files; the expected answers come from machine_reference.py. edge_words.py has the calls that move four bytes at once.
 """
 import os
 import sys
 
-from scenarios import Scenario, write_all
+from edge_parts import ADD, AND, BACK, HALT, JUMP, LISTEN, LOAD, SET, SHIFT, STORE, SUB, WAIT, XOR
+from edge_parts import BENCH, DEMO, FULL, HIGH, SAVE, SCENARIOS, SELF, SHARED, TOP, add, bench, code, policy, save
+from edge_words import add_words
+from scenarios import write_all
 
-
-def policy(segments, partitions, rights, slots):
-    """The text with these entries, and with the flow lines that rule 8 asks for."""
-    reads = [{save} | {s for q, s, letters in rights if q == p and "r" in letters} for p, (_, save) in enumerate(partitions)]
-    writes = [{save} | {s for q, s, letters in rights if q == p and "w" in letters} for p, (_, save) in enumerate(partitions)]
-    flows = sorted({(s, t) for p in range(len(partitions)) for s in reads[p] for t in writes[p] if s != t})
-    lines = ["segment %d %d %d" % (i, *s) for i, s in enumerate(segments)]
-    lines += ["partition %d %d %d" % (i, *p) for i, p in enumerate(partitions)]
-    lines += ["right %d %d %s" % r for r in sorted(rights)]
-    lines += ["flow %d %d" % f for f in flows] + ["slot %d %d" % s for s in slots]
-    return "".join(line.replace(" ", "\t") + "\n" for line in lines).encode()
-
-
-# The demonstration policy of document 01.
-DEMO = policy(
-    [(0, 64), (64, 44), (128, 64), (192, 44), (256, 16)],
-    [(0, 1), (2, 3)],
-    [(0, 0, "r"), (0, 4, "w"), (1, 2, "r"), (1, 4, "r")],
-    [(0, 3), (1, 2)],
-)
-# One partition with each kind of right: segment 2 rw, 3 r, 4 w, 5 none; segment 6 has the length of a save segment.
-BENCH = policy(
-    [(0, 64), (64, 44), (200, 16), (300, 16), (400, 16), (500, 16), (600, 44)],
-    [(0, 1)],
-    [(0, 0, "r"), (0, 2, "rw"), (0, 3, "r"), (0, 4, "w"), (0, 6, "rw")],
-    [(0, 1000)],
-)
-SAVE = 64
-# A partition that may write its own code.
-SELF = policy([(0, 64), (64, 44)], [(0, 1)], [(0, 0, "rw")], [(0, 10)])
-# Two partitions with one code, which the first may write.
-SHARED = policy([(0, 64), (64, 44), (128, 44)], [(0, 1), (0, 2)], [(0, 0, "rw"), (1, 0, "r")], [(0, 4), (1, 3)])
 # Partition 1 reads what partition 0 writes, in a segment of one byte, and writes another that nobody reads.
 HANDED = policy(
     [(0, 64), (64, 44), (128, 64), (192, 44), (256, 1), (257, 1), (258, 1)],
@@ -49,18 +20,8 @@ HANDED = policy(
     [(0, 0, "r"), (0, 4, "w"), (0, 6, "r"), (1, 2, "r"), (1, 4, "r"), (1, 5, "w")],
     [(0, 2), (1, 3), (0, 1)],
 )
-# Segments of 4,096 bytes up to the end of memory, and a save segment at an odd place.
-HIGH = policy([(12288, 4096), (1, 44), (8192, 4096)], [(0, 1)], [(0, 0, "r"), (0, 2, "rw")], [(0, 1)])
 # Code of 3 bytes, and of 4.
 SHORT = policy([(0, 3), (4, 44), (50, 4), (60, 44)], [(0, 1), (2, 3)], [(0, 0, "r"), (1, 2, "r")], [(0, 1), (1, 1)])
-# 32 segments, 8 partitions, 32 slots; each partition writes a segment that the next one reads.
-FULL = policy(
-    [(100 + 44 * p, 44) for p in range(8)] + [(4096 + 40 * p, 40) for p in range(8)] + [(9000 + 16 * p, 16) for p in range(8)] + [(16376 + i, 1) for i in range(8)],
-    [(8 + p, p) for p in range(8)],
-    [(p, 8 + p, "r") for p in range(8)] + [(p, 16 + p, "rw") for p in range(8)] + [(p, 16 + (p + 7) % 8, "r") for p in range(8)] + [(p, 24 + p, "w") for p in range(8)],
-    [(i % 8, 1 + 37 * i % 1000) for i in range(31)] + [(7, 1000)],
-)
-
 # Segments 0 and 8 are written by partitions 0 and 1, 7 by partition 2 alone; 1, 3, 5 are code, 2, 4, 6 save.
 SHARING = policy(
     [(0, 16), (16, 16), (32, 44), (76, 16), (92, 44), (136, 16), (152, 44), (196, 16), (212, 16)],
@@ -70,44 +31,6 @@ SHARING = policy(
 )
 # Its flow lines, in the order of rule 8's targets.
 FLOWS = sorted((tuple(int(n) for n in line.split(b"\t")[1:]) for line in SHARING.split(b"\n") if line.startswith(b"flow")), key=lambda f: f[::-1])
-
-HALT, WAIT, BACK = [0, 0, 0, 0], [10, 0, 0, 0], [12, 0, 0, 0]
-
-
-def number(op):
-    return lambda a, n: [op, a, n % 256, n // 256]
-
-
-SET, JUMP, LISTEN = number(1), number(9), number(11)
-ADD, SUB, AND, XOR, SHIFT, LOAD, STORE = ((lambda op: lambda a, b, c: [op, a, b, c])(op) for op in range(2, 9))
-
-
-def code(*instructions):
-    return [b for i in instructions for b in i]
-
-
-def save(registers={}, counter=0, state=0, fault=0, pended=0, enabled=0, back=0, handler=0, inside=0, unused=0):
-    out = b"".join(registers.get(r, 0).to_bytes(4, "little") for r in range(8))
-    out += counter.to_bytes(2, "little") + bytes([state, fault, pended, enabled])
-    return out + back.to_bytes(2, "little") + handler.to_bytes(2, "little") + bytes([inside, unused])
-
-
-SCENARIOS = []
-
-
-def add(name, text, size=16384, fill=7):
-    """A scenario whose memory has no zero."""
-    SCENARIOS.append(Scenario(name, text, size).fill(fill))
-    return SCENARIOS[-1]
-
-
-def bench(name, *instructions, n=1, text=BENCH, at=0, save_at=SAVE, **fields):
-    """These instructions at the counter, with this save segment, and n ticks."""
-    counter = fields.get("counter", 0)
-    return add(name, text).write(at + counter, code(*instructions)).start().write(save_at, save(**fields)).run(n).look(save_at, 44)
-
-
-TOP = 4294967295
 
 # Start, Pend and Run where they act.
 K5 = code(SET(0, 65), STORE(0, 1, 4), HALT)
@@ -236,9 +159,9 @@ bench("listen-replaces", LISTEN(3, 258), registers=R, handler=65535, enabled=252
 bench("listen-none", LISTEN(0, 0), registers=R, pended=255, handler=3, enabled=0)
 bench("back", BACK, SET(0, 9), n=2, registers=R, inside=1, back=4)
 bench("back-other-bytes", [12, 8, 255, 9], registers=R, inside=255, back=65535)
-for op in (13, 14, 16, 127, 128, 255):
+for op in (15, 16, 17, 127, 128, 255):
     bench("opcode-%d" % op, [op, 0, 0, 0], SET(0, 1), n=2, registers=R, unused=1)
-for op, registers in enumerate(["", "a", "abc", "abc", "abc", "abc", "abc", "ab", "ab", "a", "", "", ""]):
+for op, registers in enumerate(["", "a", "abc", "abc", "abc", "abc", "abc", "ab", "ab", "a", "", "", "", "ab", "ab"]):
     for x in registers:
         s = add("register-%s-of-%d" % (x, op), BENCH).start()
         for bad in (8, 16, 255):
@@ -277,7 +200,7 @@ for inside in (1, 2, 255):
     bench("wait-inside-%d" % inside, WAIT, n=2, registers=R, inside=inside, pended=1, enabled=1, unused=255)
 bench("back-outside", BACK, n=2, registers=R, back=8)
 bench("fault-byte-kept", SET(0, 1), HALT, n=3, registers=R, fault=9)
-bench("fault-byte-replaced", [13, 0, 0, 0], n=2, registers=R, fault=9)
+bench("fault-byte-replaced", [16, 0, 0, 0], n=2, registers=R, fault=9)
 bench("faulted-stays", SET(0, 1), n=10, state=2, fault=3, registers=R).pend(0, 1).run(10).look(SAVE, 44)
 
 # Interrupts.
@@ -325,6 +248,8 @@ for p in range(8):
 s.write(9000, range(128)).run(1).run(10000).pend(3, 2).run(9999).look(9000, 128).look(16376, 8).look(100, 44).look(232, 44)
 for k in range(3):
     add("rounds-of-full-%d" % k, FULL, fill=k + 3).start().run(10000).run(5000).pend(k, k).run(1)
+
+add_words()
 
 
 def main(root):

@@ -72,8 +72,11 @@ def sound(record):
 
 
 # "The table of opcodes says for each which operand bytes must be registers, below 8; other bytes may have all values."
-HALT, SET, ADD, SUB, AND, XOR, SHIFT, LOAD, STORE, JUMP, WAIT, LISTEN, BACK = range(13)
-REGISTERS = ["", "a", "abc", "abc", "abc", "abc", "abc", "ab", "ab", "a", "", "", ""]
+HALT, SET, ADD, SUB, AND, XOR, SHIFT, LOAD, STORE, JUMP, WAIT, LISTEN, BACK, LOAD_WORD, STORE_WORD = range(15)
+# 02, S-2, of opcodes 13 and 14: "operands as for 7 and 8".
+REGISTERS = ["", "a", "abc", "abc", "abc", "abc", "abc", "ab", "ab", "a", "", "", "", "ab", "ab"]
+# How many bytes a load or a store moves. 02, S-2: "Opcode 13 loads and opcode 14 stores four bytes".
+WIDTH = {LOAD: 1, STORE: 1, LOAD_WORD: 4, STORE_WORD: 4}
 
 # "The save segment is 44 bytes, little-endian: registers r0 to r7 at 0 to 31, four bytes each; program counter 32–33; state 34 [..];
 # fault 35; pended lines 36 and enabled lines 37 [..]; return place 38–39; handler place 40–41; in-handler 42 (0 no, else yes); 43 unused."
@@ -132,19 +135,20 @@ class Tick:
         at = self.record.base[code] + counter
         op, a, b, c = self.memory[at : at + 4]
         # "2 bad opcode or register"
-        if op > BACK or any({"a": a, "b": b, "c": c}[x] > 7 for x in REGISTERS[op]):
+        if op >= len(REGISTERS) or any({"a": a, "b": b, "c": c}[x] > 7 for x in REGISTERS[op]):
             return self.fault(2)
         # "5 wait inside a handler or back outside one"
         inside = self.get(INSIDE) != 0
         if op == WAIT and inside or op == BACK and not inside:
             return self.fault(5)
-        if op in (LOAD, STORE):
+        if op in WIDTH:
             # "3 segment c not there, or no line gives the right (save segments never have one)"
-            masks = self.record.reads if op == LOAD else self.record.writes
+            masks = self.record.reads if op in (LOAD, LOAD_WORD) else self.record.writes
             if c >= self.record.segments or not masks[self.partition] >> c & 1:
                 return self.fault(3)
-            # "4 offset at or past the length"
-            if self.register(b) >= self.record.size[c]:
+            # "4 offset at or past the length"; 02, S-2: "All four must lie inside the segment; a large rb must not come round to a small offset."
+            # Numbers here have no bound, so the sum can't.
+            if self.register(b) + WIDTH[op] > self.record.size[c]:
                 return self.fault(4)
         self.effect(op, a, b, c)
 
@@ -166,10 +170,14 @@ class Tick:
             self.put_register(a, self.register(b) ^ self.register(c))
         if op == SHIFT:  # "ra = rb moved right by (rc modulo 32) bits, zeros in"
             self.put_register(a, self.register(b) >> self.register(c) % 32)
-        if op == LOAD:  # "ra = byte at offset rb of segment c"
-            self.put_register(a, self.memory[self.record.base[c] + self.register(b)])
-        if op == STORE:  # "that byte = ra modulo 256"
-            self.memory[self.record.base[c] + self.register(b)] = self.register(a) % 256
+        if op in WIDTH:
+            # "ra = byte at offset rb of segment c", "that byte = ra modulo 256"; 02, S-2: "four bytes, little-endian, at offsets rb to rb + 3".
+            at, width = self.record.base[c] + self.register(b), WIDTH[op]
+            assert at + width <= MEMORY  # A slice past the end would be cut, or make memory longer.
+            if op in (LOAD, LOAD_WORD):
+                self.put_register(a, int.from_bytes(self.memory[at : at + width], "little"))
+            else:
+                self.memory[at : at + width] = (self.register(a) % 256**width).to_bytes(width, "little")
         if op == JUMP and self.register(a) != 0:  # "counter = n if ra is not 0"
             next_ = n
         if op == WAIT:  # "state 3"

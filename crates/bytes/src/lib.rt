@@ -13,3 +13,5 @@ pub use number::get_word;
 pub use number::low;
 pub use number::put_half;
 pub use number::put_word;
+pub use number::put_word_at;
+pub use number::word_at;

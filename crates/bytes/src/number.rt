@@ -50,6 +50,19 @@ pub fn get_word(s: &[u8], r: u32) -> u32
     )
 }
 
+// A word at any place.
+pub fn word_at(s: &[u8], at: u32) -> u32
+    ensures { λ x. ⌜ x ≡ word (now (s .entry)) at ⌝ }
+{
+    let i = at as usize;
+    joined(
+        byte_at(s, i),
+        byte_at(s, i + 1),
+        byte_at(s, i + 2),
+        byte_at(s, i + 3),
+    )
+}
+
 // A u32, so that no caller has to bound the number: it is kept modulo 65,536.
 pub fn put_half(s: &mut [u8], at: u16, n: u32)
     ensures { λ _. ⌜ now (s .exit) ≡ withHalf (now (s .entry)) at n ⌝ }
@@ -63,6 +76,16 @@ pub fn put_word(s: &mut [u8], r: u32, n: u32)
     ensures { λ _. ⌜ now (s .exit) ≡ withWord (now (s .entry)) (4 * r) n ⌝ }
 {
     let i = 4 * (r as usize);
+    put(s, i, low(n));
+    put(s, i + 1, digit(n, 256));
+    put(s, i + 2, digit(n, 65536));
+    put(s, i + 3, digit(n, 16777216));
+}
+
+pub fn put_word_at(s: &mut [u8], at: u32, n: u32)
+    ensures { λ _. ⌜ now (s .exit) ≡ withWord (now (s .entry)) at n ⌝ }
+{
+    let i = at as usize;
     put(s, i, low(n));
     put(s, i + 1, digit(n, 256));
     put(s, i + 2, digit(n, 65536));

@@ -3,3 +3,4 @@ pub mod Laws
 pub mod Plan
 pub mod Gap
 pub mod Separation
+pub mod Older

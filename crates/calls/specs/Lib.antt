@@ -1,5 +1,5 @@
--- In reading order: what the operations ask of a record, what they answer, the three operations, lists of calls, and the separation that demand 3
--- asks.
+-- In reading order: what the operations ask of a record, what they answer, the three operations, lists of calls, the separation that demand 3
+-- asks, and the machine with fewer opcodes.
 pub mod Under
 pub mod Outcomes
 pub mod Start
@@ -7,3 +7,4 @@ pub mod Pend
 pub mod Run
 pub mod Lists
 pub mod Separation
+pub mod Older

@@ -1,9 +1,9 @@
--- 01: "K1 to K10 are shown to hold of the definitions by one shared claim over a list of cases". One case more is 02's, S-4:
--- "Several texts may now give one record".
+-- 01: "K1 to K10 are shown to hold of the definitions by one shared claim over a list of cases". The cases after these are 02's: S-2's
+-- four bytes at once, and S-4's "Several texts may now give one record".
 use Prim.Native.Nat.{ℕ, _+_, _-_}
-use mathlib.Core.Bool.{Bool, true, false, _&&_, not}
+use mathlib.Core.Bool.{Bool, true, _&&_, not}
 use mathlib.Core.List.{List, [], _∷_, _++_}
-use lib.ListN.{length, getD, take, drop, set, replicate}
+use lib.ListN.{length, take, drop, set, replicate}
 use lib.Seq.{sets}
 use lib.Dec.{eqb}
 use Rattle.text.specs.Bytes.{bytesOf, same}
@@ -121,6 +121,16 @@ cases =
     -- K10: 0 − 1 is 4,294,967,295
     ∷ runs (bytes 0 (0x03 ∷ 0x00 ∷ 0x01 ∷ 0x02 ∷ []) ∷ []) (bytes 72 (1 ∷ []) ∷ []) 1
     (bytes 64 (0xff ∷ 0xff ∷ 0xff ∷ 0xff ∷ []) ∷ bytes 96 (4 ∷ 0 ∷ 0 ∷ 0 ∷ []) ∷ []) 0 1
+    -- S-2: four bytes stored at offset 12 of segment 4; at 13, and at 4,294,967,293, fault 4; loaded from the code at 1
+    ∷ runs (bytes 0 (0x0e ∷ 0x00 ∷ 0x01 ∷ 0x04 ∷ []) ∷ []) (bytes 64 (1 ∷ 2 ∷ 3 ∷ 4 ∷ 12 ∷ []) ∷ []) 1
+    (bytes 267 (0 ∷ 1 ∷ 2 ∷ 3 ∷ 4 ∷ 0 ∷ []) ∷ bytes 96 (4 ∷ 0 ∷ 0 ∷ 0 ∷ []) ∷ []) 0 1
+    ∷ runs (bytes 0 (0x0e ∷ 0x00 ∷ 0x01 ∷ 0x04 ∷ []) ∷ []) (bytes 64 (1 ∷ 2 ∷ 3 ∷ 4 ∷ 13 ∷ []) ∷ []) 1
+    (bytes 267 (0 ∷ 0 ∷ 0 ∷ 0 ∷ 0 ∷ 0 ∷ []) ∷ bytes 96 (0 ∷ 0 ∷ 2 ∷ 4 ∷ []) ∷ []) 0 1
+    ∷ runs (bytes 0 (0x0e ∷ 0x00 ∷ 0x01 ∷ 0x04 ∷ []) ∷ [])
+    (bytes 64 (1 ∷ 2 ∷ 3 ∷ 4 ∷ 0xfd ∷ 0xff ∷ 0xff ∷ 0xff ∷ []) ∷ []) 1
+    (bytes 253 (0 ∷ 0 ∷ 0 ∷ 0 ∷ 0 ∷ 0 ∷ 0 ∷ []) ∷ bytes 96 (0 ∷ 0 ∷ 2 ∷ 4 ∷ []) ∷ []) 0 1
+    ∷ runs (bytes 0 (0x0d ∷ 0x00 ∷ 0x01 ∷ 0x00 ∷ 0xc8 ∷ []) ∷ []) (bytes 64 (9 ∷ 9 ∷ 9 ∷ 9 ∷ 1 ∷ []) ∷ []) 1
+    (bytes 64 (0 ∷ 1 ∷ 0 ∷ 0xc8 ∷ []) ∷ bytes 96 (4 ∷ 0 ∷ 0 ∷ 0 ∷ []) ∷ []) 0 1
     -- S-4: the demonstration head, and the same in hexadecimal
     ∷ alike (joined demonstration) (joined inHexadecimal)
     ∷ []

@@ -2,7 +2,7 @@
 ghost use mathlib.Core.Path.{_≡_};
 ghost use Prim.Native.Nat.{_+_, _*_};
 ghost use lib.ListN.{getD};
-ghost use Rattle.machine.specs.Decode.{registerMasks, operandsFit, instructionOf, decodeOf, fetched};
+ghost use Rattle.machine.specs.Decode.{lastOpcode, registerMasks, operandsFit, instructionOf, decodeOf, fetched};
 use bytes::byte_at;
 use bytes::wide;
 use machine::Decoded;
@@ -10,7 +10,7 @@ use machine::Instr;
 
 // An opcode past the table is no instruction, whatever its operands.
 fn instruction(op: u8, a: u8, b: u8, c: u8) -> Decoded
-    ensures { λ r. ⌜ r ≡ instructionOf op a b c ⌝ }
+    ensures { λ r. ⌜ r ≡ instructionOf lastOpcode op a b c ⌝ }
 {
     let ra = a as u32;
     let rb = b as u32;
@@ -31,19 +31,21 @@ fn instruction(op: u8, a: u8, b: u8, c: u8) -> Decoded
         10 => Decoded::Runs(Instr::Wait),
         11 => Decoded::Runs(Instr::Listen(a, n)),
         12 => Decoded::Runs(Instr::Back),
-        13..=255 => Decoded::Bad,
+        13 => Decoded::Runs(Instr::LoadWord(ra, rb, rc)),
+        14 => Decoded::Runs(Instr::StoreWord(ra, rb, rc)),
+        15..=255 => Decoded::Bad,
     }
 }
 
 // By opcode, which operand bytes must be registers: 1 for a, 2 for b, 4 for c.
-const REGISTERS: [u8; 13] = [0, 1, 7, 7, 7, 7, 7, 3, 3, 1, 0, 0, 0];
+const REGISTERS: [u8; 15] = [0, 1, 7, 7, 7, 7, 7, 3, 3, 1, 0, 0, 0, 3, 3];
 
 // Past the table no operand must be a register.
 fn mask_of(op: u8) -> u8
     ensures { λ r. ⌜ r ≡ getD registerMasks op 0 ⌝ }
 {
     let i = op as usize;
-    if i < 13 {
+    if i < 15 {
         return REGISTERS[i];
     }
     0
@@ -59,7 +61,7 @@ fn operands_fit(mask: u8, a: u8, b: u8, c: u8) -> bool
 }
 
 fn tested(op: u8, a: u8, b: u8, c: u8) -> Decoded
-    ensures { λ r. ⌜ r ≡ decodeOf op a b c ⌝ }
+    ensures { λ r. ⌜ r ≡ decodeOf lastOpcode op a b c ⌝ }
 {
     if operands_fit(mask_of(op), a, b, c) {
         instruction(op, a, b, c)
@@ -71,7 +73,7 @@ fn tested(op: u8, a: u8, b: u8, c: u8) -> Decoded
 // The instruction of four bytes; a bad opcode or register is another answer. Each opcode is passed on as a constant:
 // indexed by it, the table folds away in the compiled code, and so does the second match.
 pub fn decode(op: u8, a: u8, b: u8, c: u8) -> Decoded
-    ensures { λ r. ⌜ r ≡ decodeOf op a b c ⌝ }
+    ensures { λ r. ⌜ r ≡ decodeOf lastOpcode op a b c ⌝ }
 {
     match op {
         0 => tested(0, a, b, c),
@@ -87,13 +89,15 @@ pub fn decode(op: u8, a: u8, b: u8, c: u8) -> Decoded
         10 => tested(10, a, b, c),
         11 => tested(11, a, b, c),
         12 => tested(12, a, b, c),
-        13..=255 => Decoded::Bad,
+        13 => tested(13, a, b, c),
+        14 => tested(14, a, b, c),
+        15..=255 => Decoded::Bad,
     }
 }
 
 // The instruction at a place of the code segment, which is lent.
 pub fn fetch(code: &[u8], at: u16) -> Decoded
-    ensures { λ r. ⌜ r ≡ fetched (now (code .entry)) at ⌝ }
+    ensures { λ r. ⌜ r ≡ fetched lastOpcode (now (code .entry)) at ⌝ }
 {
     let i = wide(at);
     decode(

@@ -1,4 +1,4 @@
-// What each instruction does to the bytes of a save segment, lent as `&mut [u8]`: all of it but for load and store.
+// What each instruction does to the bytes of a save segment, lent as `&mut [u8]`: all of it but for loads and stores.
 // Every function is total.
 use bytes::get_half;
 use bytes::get_word;
@@ -99,5 +99,7 @@ pub fn act(s: &mut [u8], i: Instr)
             advance(s);
         }
         Instr::Back => back(s),
+        Instr::LoadWord(_, _, _) => {}
+        Instr::StoreWord(_, _, _) => {}
     }
 }

@@ -1,3 +1,5 @@
 pub mod Parts
+pub mod Numbers
+pub mod Opcodes
 pub mod Tests
 pub mod Places

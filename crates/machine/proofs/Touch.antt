@@ -1,15 +1,15 @@
 -- Law B: the effect gives save bytes of their size, and writes only into a segment with a w line, inside it. The one law that goes by the kind
 -- of instruction.
-use Prim.Native.Nat.{ℕ, _+_, _%_, _≤_, _<_}
+use Prim.Native.Nat.{ℕ, _+_, _≤_}
 use native.Mathlib.Omega.{arith}
-use mathlib.Core.Path.{_≡_, refl, sym, _∙_}
-use mathlib.Core.Bool.{Bool, true, false}
-use mathlib.Core.List.{List, [], _∷_}
+use mathlib.Core.Path.{_≡_, _∙_}
+use mathlib.Core.Bool.{true}
+use mathlib.Core.List.{List}
 use lib.Dec.{ltb, eqb}
-use lib.ListN.{length, getD, set, length-set}
-use borrow.Author.Tests.{ltb-true}
+use lib.ListN.{length, set, length-set}
+use borrow.Author.Tests.{leb-true}
 use Rattle.machine.specs.declared.Instr.{Instr}
-use Rattle.machine.specs.declared.Instr.the-variants.{Halt, Set, Add, Sub, And, Xor, Shift, Load, Store, Jump, Wait, Listen, Back}
+use Rattle.machine.specs.declared.Instr.the-variants.{Halt, Set, Add, Sub, And, Xor, Shift, Load, Store, Jump, Wait, Listen, Back, LoadWord, StoreWord}
 use Rattle.machine.specs.declared.Decoded.{Decoded}
 use Rattle.machine.specs.declared.Decoded.the-variants.{Runs, Bad}
 use Rattle.machine.specs.declared.Fault.{Fault}
@@ -19,8 +19,9 @@ use Rattle.machine.specs.Save.{register, counter, inHandler}
 use Rattle.machine.specs.Faults.{faults}
 use Rattle.machine.specs.Decode.{fetched}
 use Rattle.machine.specs.Local.{advanced, resulted, jumps, waits, comesBack, actsOn, takesInterrupt, entered, interrupted, isReady}
-use Rattle.machine.specs.Tick.{Seat, Sees, Effect, none, saves, stores, mayLoad, mayStore, loads, storesByte, executes, obeys, steps, effect}
+use Rattle.machine.specs.Tick.{Seat, Sees, Effect, none, saves, stores, inSegment, mayLoad, mayStore, loads, storesBytes, executes, obeys, steps, effect}
 use Rattle.machine.proofs.Laws.Tests.{cond-both}
+use Rattle.machine.proofs.Laws.Numbers.{length-digits}
 
 abbrev Long : List ℕ → Type 0
 Long bytes = length bytes ≡ 44
@@ -55,19 +56,19 @@ unfolding interrupted entered withHalf withWord
 length-interrupted s = simp length-set
 
 module _ (S : Seat) where
-  loads-long : (s : List ℕ) (look : ℕ → List ℕ) (a b c : ℕ) → Long s → Long (loads S s look a b c)
+  loads-long : (width : ℕ) (s : List ℕ) (look : ℕ → List ℕ) (a b c : ℕ) → Long s → Long (loads S width s look a b c)
   unfolding loads
-  loads-long s look a b c h =
+  loads-long width s look a b c h =
       cond-both Long (mayLoad S c)
-      (λ _. cond-both Long (ltb (register s b) (S .size c)) (λ _. length-resulted s a _ ∙ h) (length-faults s OffsetOver ∙ h))
+      (λ _. cond-both Long (inSegment width (register s b) (S .size c)) (λ _. length-resulted s a _ ∙ h) (length-faults s OffsetOver ∙ h))
       (length-faults s NoRight ∙ h)
 
-  stores-touches : (s : List ℕ) (a b c : ℕ) → Long s → Touches S (storesByte S s a b c)
-  unfolding storesByte
-  stores-touches s a b c h =
+  stores-touches : (width : ℕ) (s : List ℕ) (a b c : ℕ) → Long s → Touches S (storesBytes S width s a b c)
+  unfolding storesBytes inSegment
+  stores-touches width s a b c h =
       cond-both (Touches S) (mayStore S c)
-      (λ w. cond-both (Touches S) (ltb (register s b) (S .size c))
-      (λ l. (length-advanced s ∙ h, w, omega (arith, ltb-true (register s b) (S .size c) l)))
+      (λ w. cond-both (Touches S) (inSegment width (register s b) (S .size c))
+      (λ l. (length-advanced s ∙ h, w, omega (arith, leb-true _ (S .size c) l, length-digits width (register s a))))
       (length-faults s OffsetOver ∙ h))
       (length-faults s NoRight ∙ h)
 
@@ -82,6 +83,8 @@ module _ (S : Seat) where
   acts-long s (Shift a b c) h = length-resulted s a _ ∙ h
   acts-long s (Load a b c) h = h
   acts-long s (Store a b c) h = h
+  acts-long s (LoadWord a b c) h = h
+  acts-long s (StoreWord a b c) h = h
   acts-long s (Jump a n) h =
       cond-both Long (eqb (register s a) 0) (λ _. length-advanced s ∙ h) (length-half s 32 n ∙ h)
   acts-long s Wait h =
@@ -101,8 +104,10 @@ module _ (S : Seat) where
   executes-touches s look (And a b c) h = acts-long s (And a b c) h
   executes-touches s look (Xor a b c) h = acts-long s (Xor a b c) h
   executes-touches s look (Shift a b c) h = acts-long s (Shift a b c) h
-  executes-touches s look (Load a b c) h = loads-long s look a b c h
-  executes-touches s look (Store a b c) h = stores-touches s a b c h
+  executes-touches s look (Load a b c) h = loads-long 1 s look a b c h
+  executes-touches s look (Store a b c) h = stores-touches 1 s a b c h
+  executes-touches s look (LoadWord a b c) h = loads-long 4 s look a b c h
+  executes-touches s look (StoreWord a b c) h = stores-touches 4 s a b c h
   executes-touches s look (Jump a n) h = acts-long s (Jump a n) h
   executes-touches s look Wait h = acts-long s Wait h
   executes-touches s look (Listen a n) h = acts-long s (Listen a n) h
@@ -120,5 +125,5 @@ module _ (S : Seat) where
       (cond-both (Touches S) (isReady (x .saved))
       (λ _. cond-both (Touches S) (ltb codeSize (counter (x .saved) + 4))
       (λ _. length-faults (x .saved) CounterOver ∙ h)
-      (obeys-touches (x .saved) (x .look) (fetched (x .code) (counter (x .saved))) h))
+      (obeys-touches (x .saved) (x .look) (fetched (S .opcodes) (x .code) (counter (x .saved))) h))
       tt)

@@ -1,6 +1,6 @@
 -- 01, "A tick": "Faults, the first that applies: 1 counter + 4 is over the code length; 2 bad opcode or register; 5
 -- wait inside a handler or back outside one; 3 segment c not there, or no line gives the right ..; 4 offset at or past
--- the length."
+-- the length." 02, S-2, of loads and stores of four bytes: "faults 3 and 4 keep their places".
 use Prim.Native.Nat.{ℕ}
 use mathlib.Core.List.{List}
 use lib.ListN.{set}

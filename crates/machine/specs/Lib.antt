@@ -1,5 +1,5 @@
--- In reading order: a part of memory, the save segment, instructions, one tick as an effect, the schedule place, and
--- the machine in the names of source document 003.
+-- In reading order: a part of memory, the save segment, instructions, one tick as an effect, the schedule place,
+-- the machine in the names of source document 003, and the opcode that a tick fetches.
 pub mod Bytes
 pub mod Layout
 pub mod Save
@@ -9,3 +9,4 @@ pub mod Local
 pub mod Tick
 pub mod Place
 pub mod Machine
+pub mod Fetches

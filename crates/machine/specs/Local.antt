@@ -1,17 +1,17 @@
--- 01, "A tick": what an interrupt and each instruction but load and store do to the save segment's bytes, and to
+-- 01, "A tick": what an interrupt and each instruction but a load and a store do to the save segment's bytes, and to
 -- nothing else.
-use Prim.Native.Nat.{ℕ, _+_, _-_, _*_, _/_, _%_, _^_}
+use Prim.Native.Nat.{ℕ, _+_, _-_, _/_, _%_, _^_}
 use mathlib.Core.Bool.{Bool, not, _&&_, _||_, cond}
 use mathlib.Core.List.{List}
 use lib.Bits.{bitAnd, bitXor}
 use lib.Count.{trailingZeros}
-use lib.ListN.{getD, set}
+use lib.ListN.{set}
 use lib.Dec.{eqb}
 use Rattle.machine.specs.declared.Instr.{Instr}
 use Rattle.machine.specs.declared.Instr.the-variants.{Halt, Set, Add, Sub, And, Xor, Shift, Load, Store, Jump}
-use Rattle.machine.specs.declared.Instr.the-variants.{Wait, Listen, Back}
+use Rattle.machine.specs.declared.Instr.the-variants.{Wait, Listen, Back, LoadWord, StoreWord}
 use Rattle.machine.specs.declared.Fault.the-variants.{WrongHandler}
-use Rattle.bytes.specs.Numbers.{half, word, withHalf, withWord}
+use Rattle.bytes.specs.Numbers.{half, withHalf}
 use Rattle.machine.specs.Layout.{layout, ready, halted, waiting}
 use Rattle.machine.specs.Save.{register, withRegister, counter, withCounter, state, withState, pended, enabled}
 use Rattle.machine.specs.Save.{inHandler, due}
@@ -54,9 +54,11 @@ actsOn save (And a b c) = resulted save a (bitAnd (register save b) (register sa
 actsOn save (Xor a b c) = resulted save a (bitXor (register save b) (register save c))
 -- 6 shift: "ra = rb moved right by (rc modulo 32) bits, zeros in"
 actsOn save (Shift a b c) = resulted save a (register save b / 2 ^ (register save c % 32))
--- 7 load and 8 store see a segment: Tick.antt says what they do
+-- 7 load and 8 store, 13 load word and 14 store word see a segment: Tick.antt says what they do
 actsOn save (Load a b c) = save
 actsOn save (Store a b c) = save
+actsOn save (LoadWord a b c) = save
+actsOn save (StoreWord a b c) = save
 -- 9 jump, 10 wait: above
 actsOn save (Jump a n) = jumps save a n
 actsOn save Wait = waits save

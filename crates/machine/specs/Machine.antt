@@ -10,6 +10,7 @@ use Rattle.policy.specs.Access.{readable}
 use Rattle.policy.specs.Chain.{FlowLine}
 use Rattle.machine.specs.declared.Place.{Place}
 use Rattle.machine.specs.Bytes.{part}
+use Rattle.machine.specs.Decode.{lastOpcode}
 use Rattle.machine.specs.Tick.{Seat, tickOf}
 use Rattle.machine.specs.Place.{isPlace, moved}
 
@@ -36,15 +37,30 @@ module _ (v : View) where
   abbrev pub select : ℕ → State → List ℕ
   select s x = part (x .memory) (v .base s) (v .size s)
 
-  -- What a tick of p asks of the policy.
-  abbrev pub seat : ℕ → Seat
-  seat p = record { segments = v .segments; base = v .base; size = v .size; reads = v .reads p; writes = v .writes p }
+  -- What a tick of p asks of the policy, and of the machine whose highest opcode is `last`.
+  abbrev pub seatUpTo : ℕ → ℕ → Seat
+  seatUpTo last p =
+      record {
+        opcodes = last;
+        segments = v .segments;
+        base = v .base;
+        size = v .size;
+        reads = v .reads p;
+        writes = v .writes p;
+      }
 
-  -- One tick: the current partition's effect on memory, and the place moves.
-  unfoldable pub next : State → State
-  next x =
+  -- One tick of that machine: the current partition's effect on memory, and the place moves.
+  abbrev pub nextUpTo : ℕ → State → State
+  nextUpTo last x =
       let p = current x in
-      record { memory = tickOf (seat p) (v .code p) (v .save p) (x .memory); place = moved v (x .place) }
+      record { memory = tickOf (seatUpTo last p) (v .code p) (v .save p) (x .memory); place = moved v (x .place) }
+
+  -- This machine.
+  abbrev pub seat : ℕ → Seat
+  seat p = seatUpTo lastOpcode p
+
+  unfoldable pub next : State → State
+  next x = nextUpTo lastOpcode x
 
 -- The states that the machine is for: memory of its size, and a place that refusal 13 lets pass.
 pub record Stands (limits : Limits) (v : View) (x : State) : Type 0 where

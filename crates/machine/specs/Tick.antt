@@ -1,27 +1,27 @@
 -- 01, "A tick": one tick is an effect, worked out from what the current partition sees and from nothing else, and put
 -- into memory.
-use Prim.Native.Nat.{ℕ, _+_, _*_, _%_, _≤_, _<_}
-use mathlib.Core.Path.{_≡_}
+use Prim.Native.Nat.{ℕ, _+_}
 use mathlib.Core.Bool.{Bool, _&&_, _||_, cond}
-use mathlib.Core.List.{List, [], _∷_}
-use lib.ListN.{length, getD}
-use lib.Dec.{ltb}
+use mathlib.Core.List.{List, []}
+use lib.Dec.{leb, ltb}
 use lib.Seq.{sets}
 use Rattle.machine.specs.declared.Instr.{Instr}
 use Rattle.machine.specs.declared.Instr.the-variants.{Halt, Set, Add, Sub, And, Xor, Shift, Load, Store, Jump}
-use Rattle.machine.specs.declared.Instr.the-variants.{Wait, Listen, Back}
+use Rattle.machine.specs.declared.Instr.the-variants.{Wait, Listen, Back, LoadWord, StoreWord}
 use Rattle.machine.specs.declared.Decoded.{Decoded}
 use Rattle.machine.specs.declared.Decoded.the-variants.{Runs, Bad}
 use Rattle.machine.specs.declared.Fault.the-variants.{CounterOver, BadInstruction, NoRight, OffsetOver}
-use Rattle.machine.specs.Bytes.{part, withPart}
+use Rattle.machine.specs.Bytes.{part, withPart, little, digits}
 use Rattle.machine.specs.Layout.{layout}
 use Rattle.machine.specs.Save.{register, counter}
 use Rattle.machine.specs.Faults.{faults}
 use Rattle.machine.specs.Decode.{fetched}
 use Rattle.machine.specs.Local.{advanced, resulted, actsOn, takesInterrupt, interrupted, isReady}
 
--- What a tick asks of the policy: the segments, and on which of them a line gives the current partition r or w.
+-- What a tick asks of the machine and of the policy: the highest opcode; the segments, and on which of them a line gives
+-- the current partition r or w.
 pub record Seat : Type 0 where
+  pub opcodes : ℕ
   pub segments : ℕ
   pub base : ℕ → ℕ
   pub size : ℕ → ℕ
@@ -44,6 +44,11 @@ pub data Effect : Type 0 where
 unfoldable pub reaches : ℕ → Bool → ℕ → Bool
 reaches segments given c = ltb c segments && given
 
+-- Whether so many bytes from an offset on lie inside a segment of this size. 02, S-2: "All four must lie inside the
+-- segment; a large rb must not come round to a small offset": the sum is one of numbers, which have no bound.
+unfoldable pub inSegment : ℕ → ℕ → ℕ → Bool
+inSegment width offset size = leb (offset + width) size
+
 module _ (S : Seat) where
   -- The bytes of a segment.
   abbrev pub segmentOf : ℕ → List ℕ → List ℕ
@@ -63,25 +68,26 @@ module _ (S : Seat) where
   sees code save memory =
       record { saved = part memory (S .base save) (layout .size); code = segmentOf code memory; look = looks memory }
 
-  -- 7 load: "ra = byte at offset rb of segment c"; faults 3, then 4
-  unfoldable pub loads : List ℕ → (ℕ → List ℕ) → ℕ → ℕ → ℕ → List ℕ
-  loads save look a b c =
+  -- 7 load: "ra = byte at offset rb of segment c", of width 1; 13 "loads [..] four bytes, little-endian, at offsets rb
+  -- to rb + 3 of segment c"; faults 3, then 4
+  unfoldable pub loads : ℕ → List ℕ → (ℕ → List ℕ) → ℕ → ℕ → ℕ → List ℕ
+  loads width save look a b c =
       cond (mayLoad c)
-      (cond (ltb (register save b) (S .size c))
-      (resulted save a (getD (look c) (register save b) 0))
+      (cond (inSegment width (register save b) (S .size c))
+      (resulted save a (little width (look c) (register save b)))
       (faults save OffsetOver))
       (faults save NoRight)
 
-  -- 8 store: "that byte = ra modulo 256"; faults 3, then 4
-  unfoldable pub storesByte : List ℕ → ℕ → ℕ → ℕ → Effect
-  storesByte save a b c =
+  -- 8 store: "that byte = ra modulo 256", of width 1; 14 "stores four bytes, little-endian"; faults 3, then 4
+  unfoldable pub storesBytes : ℕ → List ℕ → ℕ → ℕ → ℕ → Effect
+  storesBytes width save a b c =
       cond (mayStore c)
-      (cond (ltb (register save b) (S .size c))
-      (stores (advanced save) c (register save b) (register save a % 256 ∷ []))
+      (cond (inSegment width (register save b) (S .size c))
+      (stores (advanced save) c (register save b) (digits width (register save a)))
       (saves (faults save OffsetOver)))
       (saves (faults save NoRight))
 
-  -- One instruction: its own effect for load and store, else new save bytes.
+  -- One instruction: its own effect for a load and a store, else new save bytes.
   unfoldable pub executes : List ℕ → (ℕ → List ℕ) → Instr → Effect
   executes save look Halt = saves (actsOn save Halt)
   executes save look (Set a n) = saves (actsOn save (Set a n))
@@ -90,12 +96,14 @@ module _ (S : Seat) where
   executes save look (And a b c) = saves (actsOn save (And a b c))
   executes save look (Xor a b c) = saves (actsOn save (Xor a b c))
   executes save look (Shift a b c) = saves (actsOn save (Shift a b c))
-  executes save look (Load a b c) = saves (loads save look a b c)
-  executes save look (Store a b c) = storesByte save a b c
+  executes save look (Load a b c) = saves (loads 1 save look a b c)
+  executes save look (Store a b c) = storesBytes 1 save a b c
   executes save look (Jump a n) = saves (actsOn save (Jump a n))
   executes save look Wait = saves (actsOn save Wait)
   executes save look (Listen a n) = saves (actsOn save (Listen a n))
   executes save look Back = saves (actsOn save Back)
+  executes save look (LoadWord a b c) = saves (loads 4 save look a b c)
+  executes save look (StoreWord a b c) = storesBytes 4 save a b c
 
   -- "2 bad opcode or register"
   unfoldable pub obeys : List ℕ → (ℕ → List ℕ) → Decoded → Effect
@@ -107,7 +115,7 @@ module _ (S : Seat) where
   steps codeSize x =
       cond (ltb codeSize (counter (x .saved) + 4))
       (saves (faults (x .saved) CounterOver))
-      (obeys (x .saved) (x .look) (fetched (x .code) (counter (x .saved))))
+      (obeys (x .saved) (x .look) (fetched (S .opcodes) (x .code) (counter (x .saved))))
 
   -- "the tick takes an interrupt .. Else, with state 0, one instruction runs. Else memory is unchanged."
   unfoldable pub effect : ℕ → Sees → Effect

@@ -22,6 +22,8 @@ pub enum Instr {
     Wait,
     Listen(u8, u32),
     Back,
+    LoadWord(u32, u32, u32),
+    StoreWord(u32, u32, u32),
 }
 
 // What four bytes of code are: an instruction, or none.

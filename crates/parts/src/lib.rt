@@ -5,6 +5,8 @@ use bytes::get_half;
 use bytes::get_word;
 use bytes::low;
 use bytes::put;
+use bytes::put_word_at;
+use bytes::word_at;
 use machine::Decoded;
 use machine::Fault;
 use policy::SAVE_SIZE;
@@ -14,11 +16,12 @@ use savearea::layout::STATE;
 ghost use mathlib.Core.Path.{_≡_};
 ghost use Prim.Native.Nat.{_+_, _≤_, _<_};
 ghost use lib.ListN.{length, set};
+ghost use lib.Seq.{sets};
 ghost use Rattle.policy.specs.Limits.{saveSize};
-ghost use Rattle.machine.specs.Bytes.{part};
+ghost use Rattle.machine.specs.Bytes.{part, digits};
 ghost use Rattle.machine.specs.Save.{register, counter, due};
 ghost use Rattle.machine.specs.Faults.{faults};
-ghost use Rattle.machine.specs.Decode.{fetched};
+ghost use Rattle.machine.specs.Decode.{lastOpcode, fetched};
 ghost use Rattle.machine.specs.Local.{takesInterrupt, interrupted, isReady};
 ghost use Rattle.parts.specs.Parts.{savedAt, withSaved, loadedFrom, storedTo};
 
@@ -81,7 +84,7 @@ pub fn interrupt(memory: &mut [u8], from: usize)
 // The instruction at a place of the code segment.
 pub fn fetch(memory: &[u8], start: usize, size: usize, at: u16) -> Decoded
     requires { ⌜ start + size ≤ length (now memory) ⌝ }
-    ensures { λ r. ⌜ r ≡ fetched (part (now (memory .entry)) start size) at ⌝ }
+    ensures { λ r. ⌜ r ≡ fetched lastOpcode (part (now (memory .entry)) start size) at ⌝ }
 {
     let end = start + size;
     decoder::fetch(&memory[start..end], at)
@@ -95,6 +98,14 @@ fn store_at(memory: &mut [u8], start: usize, size: usize, at: usize, b: u8)
     put(&mut memory[start..end], at, b);
 }
 
+fn store_word_at(memory: &mut [u8], start: usize, size: usize, at: u32, n: u32)
+    requires { ⌜ (start + size ≤ length (now memory)) × (at + 4 ≤ size) ⌝ }
+    ensures { λ _. ⌜ now (memory .exit) ≡ sets (now (memory .entry)) (start + at) (digits 4 n) ⌝ }
+{
+    let end = start + size;
+    put_word_at(&mut memory[start..end], at, n);
+}
+
 // Register a takes the byte at the offset that register b has.
 pub fn load_from(memory: &mut [u8], from: usize, start: usize, size: usize, a: u32, b: u32)
     requires { ⌜ (from + saveSize ≤ length (now memory)) × (start + size ≤ length (now memory)) ⌝ }
@@ -102,7 +113,7 @@ pub fn load_from(memory: &mut [u8], from: usize, start: usize, size: usize, a: u
         ⌜
         now (memory .exit)
         ≡ withSaved (now (memory .entry)) from
-        (loadedFrom (savedAt (now (memory .entry)) from) (part (now (memory .entry)) start size) size a b)
+        (loadedFrom 1 (savedAt (now (memory .entry)) from) (part (now (memory .entry)) start size) size a b)
         ⌝ }
 {
     let at = get_register(memory, from, b) as usize;
@@ -119,7 +130,7 @@ pub fn load_from(memory: &mut [u8], from: usize, start: usize, size: usize, a: u
 // That byte takes register a. The save bytes are put first, as the definition has it; nothing is read between.
 pub fn store_to(memory: &mut [u8], from: usize, start: usize, size: usize, a: u32, b: u32)
     requires { ⌜ (from + saveSize ≤ length (now memory)) × (start + size ≤ length (now memory)) ⌝ }
-    ensures { λ _. ⌜ now (memory .exit) ≡ storedTo (now (memory .entry)) from start size a b ⌝ }
+    ensures { λ _. ⌜ now (memory .exit) ≡ storedTo 1 (now (memory .entry)) from start size a b ⌝ }
 {
     let at = get_register(memory, from, b) as usize;
     let x = low(get_register(memory, from, a));
@@ -127,6 +138,44 @@ pub fn store_to(memory: &mut [u8], from: usize, start: usize, size: usize, a: u3
         let to = from + SAVE_SIZE;
         savearea::advance(&mut memory[from..to]);
         store_at(memory, start, size, at, x);
+    } else {
+        fault(memory, from, Fault::OffsetOver);
+    }
+}
+
+// Register a takes the four bytes from the offset that register b has on. The offset is widened before 4 is added, so that
+// the sum cannot come round.
+pub fn load_word_from(memory: &mut [u8], from: usize, start: usize, size: usize, a: u32, b: u32)
+    requires { ⌜ (from + saveSize ≤ length (now memory)) × (start + size ≤ length (now memory)) ⌝ }
+    ensures { λ _.
+        ⌜
+        now (memory .exit)
+        ≡ withSaved (now (memory .entry)) from
+        (loadedFrom 4 (savedAt (now (memory .entry)) from) (part (now (memory .entry)) start size) size a b)
+        ⌝ }
+{
+    let at = get_register(memory, from, b);
+    if size < (at as usize) + 4 {
+        fault(memory, from, Fault::OffsetOver);
+        return;
+    }
+    let end = start + size;
+    let x = word_at(&memory[start..end], at);
+    let to = from + SAVE_SIZE;
+    savearea::put_result(&mut memory[from..to], a, x);
+}
+
+// Those four bytes take register a; the save bytes are put first here too.
+pub fn store_word_to(memory: &mut [u8], from: usize, start: usize, size: usize, a: u32, b: u32)
+    requires { ⌜ (from + saveSize ≤ length (now memory)) × (start + size ≤ length (now memory)) ⌝ }
+    ensures { λ _. ⌜ now (memory .exit) ≡ storedTo 4 (now (memory .entry)) from start size a b ⌝ }
+{
+    let at = get_register(memory, from, b);
+    let x = get_register(memory, from, a);
+    if (at as usize) + 4 <= size {
+        let to = from + SAVE_SIZE;
+        savearea::advance(&mut memory[from..to]);
+        store_word_at(memory, start, size, at, x);
     } else {
         fault(memory, from, Fault::OffsetOver);
     }

@@ -2,15 +2,16 @@
 use Prim.Native.Nat.{ℕ}
 use mathlib.Core.List.{List}
 use Rattle.machine.specs.declared.Decoded.{Decoded}
-use Rattle.machine.specs.Tick.{Seat, looks, loads, storesByte, obeys, steps, sees, applied}
+use Rattle.machine.specs.Tick.{Seat, looks, loads, storesBytes, obeys, steps, sees, applied}
 use Rattle.parts.specs.Parts.{savedAt, withSaved}
 
 module _ (S : Seat) where
-  abbrev pub loaded : ℕ → List ℕ → ℕ → ℕ → ℕ → List ℕ
-  loaded from memory a b c = withSaved memory from (loads S (savedAt memory from) (looks S memory) a b c)
+  -- A load and a store of `width` bytes.
+  abbrev pub loaded : ℕ → ℕ → List ℕ → ℕ → ℕ → ℕ → List ℕ
+  loaded width from memory a b c = withSaved memory from (loads S width (savedAt memory from) (looks S memory) a b c)
 
-  abbrev pub stored : ℕ → List ℕ → ℕ → ℕ → ℕ → List ℕ
-  stored from memory a b c = applied S from (storesByte S (savedAt memory from) a b c) memory
+  abbrev pub stored : ℕ → ℕ → List ℕ → ℕ → ℕ → ℕ → List ℕ
+  stored width from memory a b c = applied S from (storesBytes S width (savedAt memory from) a b c) memory
 
   abbrev pub obeyed : ℕ → List ℕ → Decoded → List ℕ
   obeyed from memory d = applied S from (obeys S (savedAt memory from) (looks S memory) d) memory

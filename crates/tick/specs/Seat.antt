@@ -5,12 +5,14 @@ use mathlib.Core.List.{List}
 use lib.ListN.{getD, length}
 use Rattle.bits.specs.Masks.{has}
 use Rattle.policy.specs.Limits.{saveSize}
+use Rattle.machine.specs.Decode.{lastOpcode}
 use Rattle.machine.specs.Tick.{Seat}
 
 -- The masks are the current partition's: bit s, a line gives it r, or w, on segment s.
 abbrev pub seatOf : List ℕ → List ℕ → ℕ → ℕ → ℕ → Seat
 seatOf base size reads writes segments =
     record {
+      opcodes = lastOpcode;
       segments = segments;
       base = λ s. getD base s 0;
       size = λ s. getD size s 0;

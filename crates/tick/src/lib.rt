@@ -3,10 +3,13 @@
 mod loading;
 mod reach;
 mod storing;
+mod words;
 
 use crate::loading::load;
 use crate::reach::entry;
 use crate::storing::store;
+use crate::words::load_word;
+use crate::words::store_word;
 use local::act;
 use machine::Decoded;
 use machine::Fault;
@@ -55,6 +58,18 @@ fn obey<'a>(
     match i {
         Instr::Load(a, b, c) => load(memory, base, size, reads, segments, from, a, b, c),
         Instr::Store(a, b, c) => store(memory, base, size, writes, segments, from, a, b, c),
+        Instr::LoadWord(a, b, c) => load_word(memory, base, size, reads, segments, from, a, b, c),
+        Instr::StoreWord(a, b, c) => store_word(
+            memory,
+            base,
+            size,
+            writes,
+            segments,
+            from,
+            a,
+            b,
+            c,
+        ),
         _ => {
             let to = from + SAVE_SIZE;
             act(&mut memory[from..to], i);

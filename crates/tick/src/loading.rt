@@ -29,7 +29,7 @@ pub(crate) fn load<'a>(
         ⌜
         ((writes : ℕ) → now (memory .exit)
         ≡ loaded (seatOf (now (base .entry)) (now (size .entry)) reads writes segments)
-        from (now (memory .entry)) a b c)
+        1 from (now (memory .entry)) a b c)
         ⌝ }
 {
     if may(reads, segments, c) {

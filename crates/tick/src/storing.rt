@@ -29,7 +29,7 @@ pub(crate) fn store<'a>(
         ⌜
         ((reads : ℕ) → now (memory .exit)
         ≡ stored (seatOf (now (base .entry)) (now (size .entry)) reads writes segments)
-        from (now (memory .entry)) a b c)
+        1 from (now (memory .entry)) a b c)
         ⌝ }
 {
     if may(writes, segments, c) {

@@ -29,8 +29,8 @@ pub struct Policy {
 /// The bytes of a record.
 pub const RECORD: usize = 436;
 
-const R: u8 = 1;
-const W: u8 = 2;
+pub const R: u8 = 1;
+pub const W: u8 = 2;
 
 impl Policy {
     /// The record of zeros.

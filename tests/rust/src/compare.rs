@@ -3,7 +3,7 @@
 use crate::boundary::{Kernel, Place, Policy, MEMORY};
 use crate::generate::lists::{Call, List, Step};
 use crate::reference::bytes::{self, Bytes};
-use crate::reference::{judge, print, read, run_watched, sound, Event, Reference};
+use crate::reference::{judge, print, read, run_watched, sound, Event, Reference, OPCODES};
 use std::collections::BTreeMap;
 
 /// How a kernel differs from the reference on a text, if it does.
@@ -166,7 +166,7 @@ impl Reached {
                 self.count(LINES[line as usize]);
                 self.count(if waiting { "interrupt while waiting" } else { "interrupt while ready" });
             }
-            Event::Ran { opcode } => self.count(OPCODES[opcode as usize]),
+            Event::Ran { opcode } => self.count(NAMES[opcode as usize]),
             Event::Fault { why, .. } => self.count(&format!("fault {why}")),
             Event::Idle { why } => self.count(why),
         }
@@ -180,7 +180,8 @@ impl Reached {
 
 const LINES: [&str; 8] =
     ["line 0 taken", "line 1 taken", "line 2 taken", "line 3 taken", "line 4 taken", "line 5 taken", "line 6 taken", "line 7 taken"];
-const OPCODES: [&str; 13] = ["halt", "set", "add", "sub", "and", "xor", "shift", "load", "store", "jump", "wait", "listen", "back"];
+const NAMES: [&str; OPCODES as usize] =
+    ["halt", "set", "add", "sub", "and", "xor", "shift", "load", "store", "jump", "wait", "listen", "back", "load word", "store word"];
 
 /// Every reason of a refused text, and every outcome of a record.
 pub const TEXT_CASES: [&str; 63] = [
@@ -250,7 +251,7 @@ pub const TEXT_CASES: [&str; 63] = [
 ];
 
 /// Every outcome of a call and of a tick.
-pub const LIST_CASES: [&str; 58] = [
+pub const LIST_CASES: [&str; 69] = [
     "Start 0",
     "Start 9",
     "Start 10",
@@ -290,6 +291,8 @@ pub const LIST_CASES: [&str; 58] = [
     "wait",
     "listen",
     "back",
+    "load word",
+    "store word",
     "fault 1 counter past the code",
     "fault 1 counter near the code's end",
     "fault 2 bad opcode",
@@ -301,8 +304,17 @@ pub const LIST_CASES: [&str; 58] = [
     "fault 3 load with w alone",
     "fault 3 store without a right",
     "fault 3 store with r alone",
+    "fault 3 segment of a word not there",
+    "fault 3 load word without a right",
+    "fault 3 load word with w alone",
+    "fault 3 store word without a right",
+    "fault 3 store word with r alone",
     "fault 4 offset at the length",
     "fault 4 offset past the length",
+    "fault 4 word over the segment's end",
+    "fault 4 word past the segment's end",
+    "fault 4 word in a segment below four bytes",
+    "fault 4 word that would come round",
     "idle halted",
     "idle faulted",
     "idle waiting",

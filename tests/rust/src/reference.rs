@@ -10,7 +10,7 @@ mod record;
 mod report;
 
 pub use calls::{pend, run, run_watched, start};
-pub use machine::{next_place, tick, Event, COUNTER, ENABLED, FAULT, HANDLER, IN_HANDLER, PENDED, RETURN, SAVE, STATE, UNUSED};
+pub use machine::{next_place, tick, Event, COUNTER, ENABLED, FAULT, HANDLER, IN_HANDLER, OPCODES, PENDED, RETURN, SAVE, STATE, UNUSED};
 pub use reader::{judge, read, Refusal};
 pub use record::{print, readable, sound, sources, writable, Lines};
 pub use report::report;

@@ -191,17 +191,8 @@ impl<'p> View<'p> {
                 };
                 set_register(save, a, value);
             }
-            7 if (a | b) < 8 => {
-                let offset = register(save, b);
-                let place = self.place(c, self.reads, offset)?;
-                let byte = memory[place];
-                set_register(self.save(memory), a, u32::from(byte));
-            }
-            8 if (a | b) < 8 => {
-                let (offset, byte) = (register(save, b), register(save, a) as u8);
-                let place = self.place(c, self.writes, offset)?;
-                memory[place] = byte;
-            }
+            7 if (a | b) < 8 => self.load::<1>(memory, a, b, c)?,
+            8 if (a | b) < 8 => self.store::<1>(memory, a, b, c)?,
             9 if a < 8 => {
                 if register(save, a) != 0 {
                     next = n;
@@ -218,19 +209,41 @@ impl<'p> View<'p> {
                 next = two(save, 38);
                 save[42] = 0;
             }
+            13 if (a | b) < 8 => self.load::<4>(memory, a, b, c)?,
+            14 if (a | b) < 8 => self.store::<4>(memory, a, b, c)?,
             _ => return Err(2),
         }
         Ok(next)
     }
 
-    /// The byte at an offset of segment c, if its bit stands in the mask. Stray bits are 0, so a segment that isn't there has none.
     #[inline(always)]
-    fn place(&self, c: u8, mask: u32, offset: u32) -> Result<usize, u8> {
+    fn load<const WIDTH: usize>(&self, memory: &mut Memory, a: u8, b: u8, c: u8) -> Result<(), u8> {
+        let offset = register(self.save(memory), b);
+        let place = self.place::<WIDTH>(c, self.reads, offset)?;
+        let mut value = [0; 4];
+        value[..WIDTH].copy_from_slice(&memory[place..place + WIDTH]);
+        set_register(self.save(memory), a, u32::from_le_bytes(value));
+        Ok(())
+    }
+
+    #[inline(always)]
+    fn store<const WIDTH: usize>(&self, memory: &mut Memory, a: u8, b: u8, c: u8) -> Result<(), u8> {
+        let save = self.save(memory);
+        let (offset, value) = (register(save, b), register(save, a).to_le_bytes());
+        let place = self.place::<WIDTH>(c, self.writes, offset)?;
+        memory[place..place + WIDTH].copy_from_slice(&value[..WIDTH]);
+        Ok(())
+    }
+
+    /// WIDTH bytes from an offset of segment c on, if its bit stands in the mask. Stray bits are 0, so a segment that isn't there has none.
+    #[inline(always)]
+    fn place<const WIDTH: usize>(&self, c: u8, mask: u32, offset: u32) -> Result<usize, u8> {
         let c = c as usize;
         if c >= 32 || mask >> c & 1 == 0 {
             return Err(3);
         }
-        if offset >= u32::from(self.policy.size[c]) {
+        // Over 64 bits, so that no sum comes round.
+        if u64::from(offset) + WIDTH as u64 > u64::from(self.policy.size[c]) {
             return Err(4);
         }
         Ok(self.policy.base[c] as usize + offset as usize)

@@ -10,7 +10,7 @@ use separation::generate::texts::text;
 use separation::leaky::{Leaky, LEAKS};
 use separation::pairs::{bytes_of, check, explain, run_pair, tick_pair};
 use separation::random::Random;
-use separation::reference::{self, sound, sources, Reference, ENABLED};
+use separation::reference::{self, sound, sources, tick, Event, Reference, COUNTER, ENABLED};
 use separation::{show, shrink};
 
 #[test]
@@ -78,6 +78,35 @@ fn a_wrong_run_is_found_and_the_list_is_made_short() {
     assert_eq!(short.steps.len(), 1, "{}", show::list(&short));
     assert!(matches!(short.steps[0].call, Call::Run { .. }));
     assert!(short.memory[..MEMORY].iter().filter(|&&byte| byte != 0).count() < 40, "{}", show::list(&short));
+}
+
+/// Words are loaded and stored at both ends of segments, between them aligned and not, in segments of four and five bytes, and in the code that runs.
+#[test]
+fn generated_programs_move_words() {
+    let mut random = Random::new(16);
+    let mut seen = [[0; 7]; 2];
+    for _ in 0..2_000 {
+        let list = list(&mut random);
+        let (policy, mut memory, mut place) = (list.policies[0], list.memory, Place::FIRST);
+        for _ in 0..200 {
+            let p = policy.slot_partition[place.slot as usize] as usize;
+            let save = memory[bytes_of(&policy, policy.save[p] as usize)].to_vec();
+            let at = policy.base[policy.code[p] as usize] as usize + save[COUNTER] as usize + 256 * save[COUNTER + 1] as usize;
+            let instruction = memory.get(at..at + 4).unwrap_or(&[0; 4]).to_vec();
+            if let Event::Ran { opcode: opcode @ 13..=14 } = tick(&policy, &mut memory, p) {
+                let register = 4 * instruction[2] as usize;
+                let offset = u32::from_le_bytes(save[register..register + 4].try_into().unwrap()) as usize;
+                let (segment, size) = (instruction[3], policy.size[instruction[3] as usize] as usize);
+                let inner = offset > 0 && offset + 4 < size;
+                let cases =
+                    [offset == 0, offset + 4 == size, inner && offset.is_multiple_of(4), inner && !offset.is_multiple_of(4), size == 4, size == 5];
+                let own = segment == policy.code[p];
+                cases.into_iter().chain([own]).enumerate().for_each(|(case, is)| seen[opcode as usize - 13][case] += is as usize);
+            }
+            place = reference::next_place(&policy, place);
+        }
+    }
+    assert!(seen.as_flattened().iter().all(|&count| count > 50), "{seen:?}");
 }
 
 #[test]

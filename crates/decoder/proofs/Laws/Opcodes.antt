@@ -1,12 +1,10 @@
--- An opcode past the table is no instruction: what is none of the keys below 13 is above 12.
+-- An opcode past the table is no instruction: what is none of the keys up to the highest opcode is above it.
 use Prim.Native.Nat.{ℕ, zero, suc, _≤_, zero-le}
 use native.Mathlib.Omega.{arith}
-use mathlib.Core.Path.{_≡_, refl}
-use mathlib.Core.Bool.{Bool, true, false, cond}
-use lib.ListN.{getD}
-use borrow.Author.Tests.{lt-ltb}
+use mathlib.Core.Path.{_≡_}
 use Rattle.machine.specs.declared.Decoded.the-variants.{Bad}
-use Rattle.machine.specs.Decode.{registerMasks, operandsFit, instructionOf, decodeOf}
+use Rattle.machine.specs.Decode.{lastOpcode, instructionOf, decodeOf}
+use Rattle.machine.proofs.Laws.Opcodes.{instruction-above, decode-above}
 
 -- An opcode that is none of the keys below n, as the end of a match has it, is n or more.
 abbrev NoneBelow : ℕ → ℕ → Type 0
@@ -20,14 +18,8 @@ above (suc n) op d =
     let e = d .1 in
     omega arith
 
-pub instruction-none : (op a b c : ℕ) → NoneBelow 13 op → instructionOf op a b c ≡ Bad
-unfolding instructionOf
-instruction-none op a b c d = rw (lt-ltb 12 op (above 13 op d))
+pub instruction-none : (op a b c : ℕ) → NoneBelow 15 op → instructionOf lastOpcode op a b c ≡ Bad
+instruction-none op a b c d = instruction-above lastOpcode op a b c (above 15 op d)
 
-cond-bad : (t : Bool) → cond t Bad Bad ≡ Bad
-cond-bad true = refl
-cond-bad false = refl
-
-pub decode-none : (op a b c : ℕ) → NoneBelow 13 op → decodeOf op a b c ≡ Bad
-unfolding decodeOf
-decode-none op a b c d = rw (instruction-none op a b c d) (cond-bad (operandsFit (getD registerMasks op 0) a b c))
+pub decode-none : (op a b c : ℕ) → NoneBelow 15 op → decodeOf lastOpcode op a b c ≡ Bad
+decode-none op a b c d = decode-above lastOpcode op a b c (above 15 op d)

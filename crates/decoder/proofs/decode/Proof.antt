@@ -44,6 +44,12 @@ tested-requires-12 c κs = search needs
 tested-requires-13 : tie.Need-tested-requires-13
 tested-requires-13 c κs = search needs
 
+tested-requires-14 : tie.Need-tested-requires-14
+tested-requires-14 c κs = search needs
+
+tested-requires-15 : tie.Need-tested-requires-15
+tested-requires-15 c κs = search needs
+
 returns : tie.Need-returns
 returns c = rw (c .before .match .keys1) (c .tested .ensures)
 
@@ -84,7 +90,13 @@ returns-13 : tie.Need-returns-13
 returns-13 c = rw (c .before .match .keys13) (c .tested13 .ensures)
 
 returns-14 : tie.Need-returns-14
-returns-14 c = let a = c .before .args in sym (decode-none (a .op) (a .a) (a .b) (a .c) (c .match .rest))
+returns-14 c = rw (c .before .match .keys14) (c .tested14 .ensures)
+
+returns-15 : tie.Need-returns-15
+returns-15 c = rw (c .before .match .keys15) (c .tested15 .ensures)
+
+returns-16 : tie.Need-returns-16
+returns-16 c = let a = c .before .args in sym (decode-none (a .op) (a .a) (a .b) (a .c) (c .match .rest))
 
 pub decode-spec : {M : Type 1} → statement M
 decode-spec =
@@ -103,6 +115,8 @@ decode-spec =
     tested-requires-11
     tested-requires-12
     tested-requires-13
+    tested-requires-14
+    tested-requires-15
     returns
     returns-2
     returns-3
@@ -116,4 +130,6 @@ decode-spec =
     returns-11
     returns-12
     returns-13
-    returns-14)
+    returns-14
+    returns-15
+    returns-16)

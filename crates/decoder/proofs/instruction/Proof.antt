@@ -1,4 +1,4 @@
--- Each key of the match is the opcode that the definition tests, and what is none of the keys is above 12.
+-- Each key of the match is the opcode that the definition tests, and what is none of the keys is above the highest.
 use mathlib.Core.Path.{sym}
 use Rattle.machine.specs.Decode.{instructionOf}
 use Rattle.decoder.proofs.Laws.Opcodes.{instruction-none}
@@ -65,7 +65,15 @@ unfolding instructionOf
 returns-13 c = rw (c .match .keys13)
 
 returns-14 : tie.Need-returns-14
-returns-14 c = let a = c .before .args in sym (instruction-none (a .op) (a .a) (a .b) (a .c) (c .match .rest))
+unfolding instructionOf
+returns-14 c = rw (c .match .keys14)
+
+returns-15 : tie.Need-returns-15
+unfolding instructionOf
+returns-15 c = rw (c .match .keys15)
+
+returns-16 : tie.Need-returns-16
+returns-16 c = let a = c .before .args in sym (instruction-none (a .op) (a .a) (a .b) (a .c) (c .match .rest))
 
 pub instruction-spec : {M : Type 1} → statement M
 instruction-spec =
@@ -86,4 +94,6 @@ instruction-spec =
     returns-11
     returns-12
     returns-13
-    returns-14)
+    returns-14
+    returns-15
+    returns-16)

@@ -121,6 +121,12 @@ enum-told-5 c = search needs
 back-requires : tie.Need-back-requires
 back-requires c κs = search needs
 
+enum-told-6 : tie.Need-enum-told-6
+enum-told-6 c = search needs
+
+enum-told-7 : tie.Need-enum-told-7
+enum-told-7 c = search needs
+
 same-length : tie.Need-same-length
 same-length c = search needs
 
@@ -264,6 +270,14 @@ returns-13 : tie.Need-returns-13
 unfolding actsOn
 returns-13 c = rw (c .before .before .before .before .enum-told5 .given .1, c .before .before .back .ensures)
 
+returns-14 : tie.Need-returns-14
+unfolding actsOn
+returns-14 c = rw (c .enum-told6 .given .1)
+
+returns-15 : tie.Need-returns-15
+unfolding actsOn
+returns-15 c = rw (c .enum-told7 .given .1)
+
 pub act-spec : {M : Type 1} → statement M
 act-spec =
     tie.close
@@ -307,6 +321,8 @@ act-spec =
     advance-requires
     enum-told-5
     back-requires
+    enum-told-6
+    enum-told-7
     same-length
     returns
     same-length-2
@@ -330,4 +346,6 @@ act-spec =
     same-length-10
     returns-12
     same-length-11
-    returns-13)
+    returns-13
+    returns-14
+    returns-15)

@@ -6,6 +6,7 @@ use mathlib.Core.Path.{_≡_, refl, sym, _∙_, ap}
 use mathlib.Core.Logic.{_⊎_, inl, inr, ⊎-elim}
 use mathlib.Core.List.{List, [], _∷_, _++_, append-assoc}
 use lib.ListN.{length, getD, set, take, drop}
+use borrow.Rule.Slice.PartMut.{put-same}
 use lib.Seq.{sets, sets-eq, drop-drop, take-set-lt, drop-set-add, drop-set-lt, take-set-le, getD-set-other}
 use Rattle.machine.specs.Bytes.{part, withPart}
 
@@ -42,3 +43,13 @@ getD-sets-other k i (v ∷ vs) m h =
 pub with-sets : (m : List ℕ) (a k : ℕ) (ys : List ℕ) → a + k ≤ length m → length ys ≡ k → withPart m a k ys ≡ sets m a ys
 with-sets m a k ys fits long =
     rw (sets-eq ys m a (omega arith), long, drop-drop) (sym (append-assoc (take a m) ys (drop (a + k) m)))
+
+-- Bytes stored into a part, and the part put back, are stored at their place in memory: by induction on the bytes.
+set-outside : (m : List ℕ) (a k j v : ℕ) (ys : List ℕ) → j < k → withPart (set m (a + j) v) a k ys ≡ withPart m a k ys
+set-outside m a k j v ys h = rw (take-set-le a m (a + j) v (omega arith), drop-set-add, drop-set-lt)
+
+pub with-part-sets : (m : List ℕ) (a k j : ℕ) (vs : List ℕ) → j + length vs ≤ k → withPart m a k (sets (part m a k) j vs) ≡ sets m (a + j) vs
+with-part-sets m a k j [] h = put-same a k m
+with-part-sets m a k j (v ∷ vs) h =
+    rw (← part-set a k j v m (omega arith), ← set-outside m a k j v (sets (part (set m (a + j) v) a k) (suc j) vs) (omega arith), ← add-suc)
+    (with-part-sets (set m (a + j) v) a k (suc j) vs (omega arith))

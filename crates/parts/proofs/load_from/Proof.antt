@@ -1,6 +1,7 @@
 -- The offset is read first, and the code's two cases are those of `loadedFrom`.
 use native.Mathlib.Nat.{add-sub-cancel-left}
 use borrow.Author.Tests.{lt-ltb, le-ltb}
+use Rattle.machine.proofs.Laws.Numbers.{little-one, inside-one}
 use Rattle.parts.specs.Parts.{loadedFrom}
 use borrow.Author.Needs.{needs}
 use Rattle.parts.proofs.load_from.Statement.{statement}
@@ -22,7 +23,7 @@ returns : tie.Need-returns
 unfolding loadedFrom
 returns c =
     let i = c .before .before .before .before in
-    rw (c .before .before .fault .ensures, ← i .before .get-register .ensures, le-ltb _ _ (i .if1 .taken))
+    rw (c .before .before .fault .ensures, ← i .before .get-register .ensures, inside-one, le-ltb _ _ (i .if1 .taken))
 
 add-end : tie.Need-add-end
 add-end c = search needs
@@ -69,7 +70,9 @@ returns-2 c =
       c .before .before .put-result .ensures,
       add-sub-cancel-left,
       ← i .before .get-register .ensures,
+      inside-one,
       lt-ltb _ _ (i .if1 .left),
+      little-one,
       b .byte-at .ensures,
       add-sub-cancel-left,
     )

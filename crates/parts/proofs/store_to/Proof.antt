@@ -1,6 +1,7 @@
 -- Both registers are read first, the save bytes are put and then the byte, as in `storedTo`.
 use native.Mathlib.Nat.{add-sub-cancel-left}
 use borrow.Author.Tests.{lt-ltb, le-ltb}
+use Rattle.machine.proofs.Laws.Numbers.{digits-one, inside-one}
 use Rattle.parts.specs.Parts.{storedTo}
 use borrow.Author.Needs.{needs}
 use Rattle.parts.proofs.store_to.Statement.{statement}
@@ -55,7 +56,9 @@ returns c =
       l .low .ensures,
       l .before .get-register2 .ensures,
       ← l .before .before .before .get-register .ensures,
+      inside-one,
       lt-ltb _ _ (i .if1 .taken),
+      digits-one,
     )
 
 same-length-2 : tie.Need-same-length-2
@@ -65,7 +68,7 @@ returns-2 : tie.Need-returns-2
 unfolding storedTo
 returns-2 c =
     let i = c .before .before .before .before in
-    rw (c .before .before .fault .ensures, ← i .before .before .before .before .get-register .ensures, le-ltb _ _ (i .if1 .left))
+    rw (c .before .before .fault .ensures, ← i .before .before .before .before .get-register .ensures, inside-one, le-ltb _ _ (i .if1 .left))
 
 pub store-to-spec : {M : Type 1} → statement M
 store-to-spec =

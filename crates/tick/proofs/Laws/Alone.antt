@@ -1,11 +1,11 @@
--- An instruction that is neither load nor store changes the save bytes alone: the definition's clause for its kind says so.
+-- An instruction that is no load and no store changes the save bytes alone: the definition's clause for its kind says so.
 use Prim.Native.Nat.{ℕ}
 use mathlib.Core.Path.{_≡_, refl}
 use mathlib.Core.List.{List, [], _∷_}
 use denote.Enum.Declared.{tagOf}
 use types.Run.{OneOf, miss}
 use Rattle.machine.specs.declared.Instr.{Instr}
-use Rattle.machine.specs.declared.Instr.the-variants.{Halt, Set, Add, Sub, And, Xor, Shift, Load, Store, Jump, Wait, Listen, Back}
+use Rattle.machine.specs.declared.Instr.the-variants.{Halt, Set, Add, Sub, And, Xor, Shift, Load, Store, Jump, Wait, Listen, Back, LoadWord, StoreWord}
 use Rattle.machine.proofs.Instr.{the-type}
 use Rattle.machine.specs.Local.{actsOn}
 use Rattle.machine.specs.Tick.{Seat, saves, executes}
@@ -29,3 +29,5 @@ acts-alone S save look (Jump a n) h = refl
 acts-alone S save look Wait h = refl
 acts-alone S save look (Listen a n) h = refl
 acts-alone S save look Back h = refl
+acts-alone S save look (LoadWord a b c) h = absurd (miss others 13 tt h)
+acts-alone S save look (StoreWord a b c) h = absurd (miss others 14 tt h)

@@ -35,6 +35,18 @@ enum-known-i-2 c = search needs
 store-requires : tie.Need-store-requires
 store-requires c κs = search needs
 
+enum-known-i-3 : tie.Need-enum-known-i-3
+enum-known-i-3 c = search needs
+
+load-word-requires : tie.Need-load-word-requires
+load-word-requires c κs = search needs
+
+enum-known-i-4 : tie.Need-enum-known-i-4
+enum-known-i-4 c = search needs
+
+store-word-requires : tie.Need-store-word-requires
+store-word-requires c κs = search needs
+
 add-to : tie.Need-add-to
 add-to c = search needs
 
@@ -72,10 +84,28 @@ same-length-4 : tie.Need-same-length-4
 same-length-4 c = search needs
 
 returns-4 : tie.Need-returns-4
-unfolding obeys
+unfolding obeys executes
 returns-4 c =
+    let arm = c .before .before .before .before .before in
+    rw (arm .before .before .before .d .given .1, arm .i3 .given .1) (c .before .before .load-word .ensures _)
+
+same-length-5 : tie.Need-same-length-5
+same-length-5 c = search needs
+
+returns-5 : tie.Need-returns-5
+unfolding obeys executes
+returns-5 c =
+    let arm = c .before .before .before .before .before in
+    rw (arm .before .before .before .d .given .1, arm .i4 .given .1) (c .before .before .store-word .ensures _)
+
+same-length-6 : tie.Need-same-length-6
+same-length-6 c = search needs
+
+returns-6 : tie.Need-returns-6
+unfolding obeys
+returns-6 c =
     let arm = c .before .before .before .before in
-    let other = arm .match2 .keys3 in
+    let other = arm .match2 .keys5 in
     rw (arm .before .before .d .given .1, c .before .before .act .ensures, add-sub-cancel-left, acts-alone)
 
 pub obey-spec : {M : Type 1} → statement M
@@ -91,6 +121,10 @@ obey-spec =
     load-requires
     enum-known-i-2
     store-requires
+    enum-known-i-3
+    load-word-requires
+    enum-known-i-4
+    store-word-requires
     add-to
     sub-act
     part-act-start
@@ -101,4 +135,8 @@ obey-spec =
     same-length-3
     returns-3
     same-length-4
-    returns-4)
+    returns-4
+    same-length-5
+    returns-5
+    same-length-6
+    returns-6)

@@ -3,7 +3,7 @@
 use super::programs::program;
 use crate::boundary::{Policy, MEMORY};
 use crate::random::Random;
-use crate::reference::{COUNTER, ENABLED, FAULT, HANDLER, IN_HANDLER, PENDED, RETURN, SAVE, STATE, UNUSED};
+use crate::reference::{COUNTER, ENABLED, FAULT, HANDLER, IN_HANDLER, OPCODES, PENDED, RETURN, SAVE, STATE, UNUSED};
 
 /// A memory for a sound record. Once in `daring` loads and stores a program tries any segment.
 pub fn memory(random: &mut Random, policy: &Policy, daring: usize) -> Vec<u8> {
@@ -11,7 +11,7 @@ pub fn memory(random: &mut Random, policy: &Policy, daring: usize) -> Vec<u8> {
     match random.below(4) {
         0 => (),
         1 => random.fill(&mut memory),
-        _ => memory.iter_mut().for_each(|byte| *byte = random.byte() % 14),
+        _ => memory.iter_mut().for_each(|byte| *byte = random.byte() % OPCODES),
     }
     for p in 0..policy.partitions as usize {
         let mut handler = 0;
@@ -46,7 +46,7 @@ fn save(random: &mut Random, policy: &Policy, partition: usize, handler: usize, 
     for r in 0..8 {
         let value = match random.below(4) {
             0 => random.number() as u32,
-            1 => random.pick(&[0xFFFF_FFFF, 0x8000_0000, 0x1_0000, 0x7FFF_FFFF]),
+            1 => random.pick(&[0xFFFF_FFFF, 0xFFFF_FFFD, 0x8000_0000, 0x1_0000, 0x7FFF_FFFF]),
             _ => random.below(64) as u32,
         };
         save[4 * r..4 * r + 4].copy_from_slice(&value.to_le_bytes());

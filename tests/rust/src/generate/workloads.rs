@@ -16,9 +16,18 @@ const LEAST: &str = "segment\t0\t0\t64\nsegment\t1\t64\t44\nsegment\t2\t128\t16\
 /// add, xor, shift, sub, and, jump, after two sets.
 pub const COMPUTE: [[u8; 4]; 8] = [[1, 1, 1, 0], [1, 2, 3, 0], [2, 0, 0, 1], [5, 3, 3, 0], [6, 4, 3, 2], [3, 5, 5, 1], [4, 6, 5, 3], [9, 1, 8, 0]];
 
-/// 256 bytes from one segment into another, over and over: sub, and, load, store, jump.
+/// 256 bytes from one segment into another, over and over: sub, and, load, store, jump, after two sets.
+fn copying(step: u8, load: u8, store: u8, from: u8, to: u8) -> Vec<[u8; 4]> {
+    vec![[1, 1, step, 0], [1, 2, 255 - (step - 1), 0], [3, 0, 0, 1], [4, 0, 0, 2], [load, 3, 0, from], [store, 3, 0, to], [9, 1, 8, 0]]
+}
+
 pub fn copy(from: u8, to: u8) -> Vec<[u8; 4]> {
-    vec![[1, 1, 1, 0], [1, 2, 255, 0], [3, 0, 0, 1], [4, 0, 0, 2], [7, 3, 0, from], [8, 3, 0, to], [9, 1, 8, 0]]
+    copying(1, 7, 8, from, to)
+}
+
+/// The same by words: four bytes with each load and store.
+pub fn copy_words(from: u8, to: u8) -> Vec<[u8; 4]> {
+    copying(4, 13, 14, from, to)
 }
 
 pub fn policy_of(text: &[u8]) -> Policy {

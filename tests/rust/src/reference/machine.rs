@@ -1,6 +1,6 @@
 //! One tick: an interrupt taken, one instruction, or an idle step.
 
-use crate::boundary::{Place, Policy};
+use crate::boundary::{Place, Policy, R, W};
 
 /// "The save segment is 44 bytes, little-endian": offsets in it. The registers r0 to r7 stand at 0 to 31, four bytes each.
 pub const SAVE: usize = 44;
@@ -20,8 +20,11 @@ const HALTED: u8 = 1;
 const FAULTED: u8 = 2;
 const WAITING: u8 = 3;
 
-/// "The table of opcodes says for each which operand bytes must be registers, below 8": a, b, c.
-const REGISTERS: [[bool; 3]; 13] = [
+/// Opcodes 0 to 12 of the scope document, and with S-2 13 and 14; every one above is fault 2.
+pub const OPCODES: u8 = 15;
+
+/// "The table of opcodes says for each which operand bytes must be registers, below 8": a, b, c. S-2: "operands as for 7 and 8".
+const REGISTERS: [[bool; 3]; OPCODES as usize] = [
     [false, false, false], // 0 halt
     [true, false, false],  // 1 set
     [true, true, true],    // 2 add
@@ -35,6 +38,8 @@ const REGISTERS: [[bool; 3]; 13] = [
     [false, false, false], // 10 wait
     [false, false, false], // 11 listen
     [false, false, false], // 12 back
+    [true, true, false],   // 13 load word
+    [true, true, false],   // 14 store word
 ];
 
 /// What a tick was (for the count of what the tests have reached).
@@ -122,21 +127,42 @@ fn interrupt(save: &mut Save, ready_lines: u8, waiting: bool) -> Event {
     Event::Interrupt { line: line as u8, waiting }
 }
 
+type Fault = (u8, &'static str);
+
 /// One instruction: its opcode, or the fault's number. Faults come before any change.
-fn instruction(policy: &Policy, memory: &mut [u8], partition: usize, in_handler: bool) -> Result<u8, (u8, &'static str)> {
-    let code_base = policy.base[policy.code[partition] as usize] as usize;
-    let code_length = policy.size[policy.code[partition] as usize] as usize;
+fn instruction(policy: &Policy, memory: &mut [u8], partition: usize, in_handler: bool) -> Result<u8, Fault> {
     let counter = save_of(policy, memory, partition).two(COUNTER);
+    let [opcode, a, b, c] = fetch(policy, memory, partition, counter)?;
+    judge([opcode, a, b, c], in_handler)?;
+    let next_counter = match opcode {
+        // "7 load: ra = byte at offset rb of segment c", "8 store: that byte = ra modulo 256"
+        7 => load(policy, memory, partition, [a, b, c], 1).map(|()| counter + 4)?,
+        8 => store(policy, memory, partition, [a, b, c], 1).map(|()| counter + 4)?,
+        // S-2: "Opcode 13 loads and opcode 14 stores four bytes, little-endian, at offsets rb to rb + 3 of segment c"
+        13 => load(policy, memory, partition, [a, b, c], 4).map(|()| counter + 4)?,
+        14 => store(policy, memory, partition, [a, b, c], 4).map(|()| counter + 4)?,
+        _ => effect(&mut save_of(policy, memory, partition), [opcode, a, b, c], counter),
+    };
+    save_of(policy, memory, partition).set_two(COUNTER, next_counter);
+    Ok(opcode)
+}
+
+/// "An instruction is four bytes: opcode, a, b, c."
+fn fetch(policy: &Policy, memory: &[u8], partition: usize, counter: u16) -> Result<[u8; 4], Fault> {
+    let code = policy.code[partition] as usize;
+    let (counter, length) = (counter as usize, policy.size[code] as usize);
     // "1 counter + 4 is over the code length"
-    if counter as usize + 4 > code_length {
-        return Err((1, if counter as usize >= code_length { "1 counter past the code" } else { "1 counter near the code's end" }));
+    if counter + 4 > length {
+        return Err((1, if counter >= length { "1 counter past the code" } else { "1 counter near the code's end" }));
     }
-    // "An instruction is four bytes: opcode, a, b, c. The number n is b + 256 × c."
-    let at = code_base + counter as usize;
-    let [opcode, a, b, c] = [memory[at], memory[at + 1], memory[at + 2], memory[at + 3]];
-    let n = u16::from(b) + 256 * u16::from(c);
-    // "2 bad opcode or register": "Every opcode above 12 is fault 2."
-    if opcode > 12 {
+    let at = policy.base[code] as usize + counter;
+    Ok([memory[at], memory[at + 1], memory[at + 2], memory[at + 3]])
+}
+
+/// The faults that the instruction alone tells, and whether a handler runs.
+fn judge([opcode, a, b, c]: [u8; 4], in_handler: bool) -> Result<(), Fault> {
+    // "2 bad opcode or register"
+    if opcode >= OPCODES {
         return Err((2, "2 bad opcode"));
     }
     for (operand, must) in [a, b, c].into_iter().zip(REGISTERS[opcode as usize]) {
@@ -151,38 +177,80 @@ fn instruction(policy: &Policy, memory: &mut [u8], partition: usize, in_handler:
     if opcode == 12 && !in_handler {
         return Err((5, "5 back outside a handler"));
     }
-    // The byte that a load or store names.
-    let mut place = 0;
-    if opcode == 7 || opcode == 8 {
-        let segment = c as usize;
-        // "3 segment c not there, or no line gives the right (save segments never have one)"
-        if segment >= policy.segments as usize {
-            return Err((3, "3 segment not there"));
-        }
-        let right = policy.right(partition, segment);
-        if opcode == 7 && right & 1 == 0 {
-            return Err((3, if right & 2 != 0 { "3 load with w alone" } else { "3 load without a right" }));
-        }
-        if opcode == 8 && right & 2 == 0 {
-            return Err((3, if right & 1 != 0 { "3 store with r alone" } else { "3 store without a right" }));
-        }
-        // "4 offset at or past the length"
-        let offset = save_of(policy, memory, partition).register(b);
-        if offset >= u32::from(policy.size[segment]) {
-            return Err((4, if offset == u32::from(policy.size[segment]) { "4 offset at the length" } else { "4 offset past the length" }));
-        }
-        place = policy.base[segment] as usize + offset as usize;
+    Ok(())
+}
+
+/// ra = so many bytes from offset rb of segment c on, the first the lowest.
+fn load(policy: &Policy, memory: &mut [u8], partition: usize, [a, b, c]: [u8; 3], width: usize) -> Result<(), Fault> {
+    let offset = save_of(policy, memory, partition).register(b);
+    let place = place(policy, partition, c as usize, R, offset, width)?;
+    let value = (0..width).fold(0, |value, i| value | u32::from(memory[place + i]) << (8 * i));
+    save_of(policy, memory, partition).set_register(a, value);
+    Ok(())
+}
+
+/// So many bytes from offset rb of segment c on = ra's, the lowest first.
+fn store(policy: &Policy, memory: &mut [u8], partition: usize, [a, b, c]: [u8; 3], width: usize) -> Result<(), Fault> {
+    let save = save_of(policy, memory, partition);
+    let (offset, value) = (save.register(b), save.register(a));
+    let place = place(policy, partition, c as usize, W, offset, width)?;
+    (0..width).for_each(|i| memory[place + i] = (value >> (8 * i)) as u8);
+    Ok(())
+}
+
+/// Where in memory the bytes of a load or store begin.
+fn place(policy: &Policy, partition: usize, segment: usize, needed: u8, offset: u32, width: usize) -> Result<usize, Fault> {
+    // "3 segment c not there, or no line gives the right (save segments never have one)"
+    if segment >= policy.segments as usize {
+        return Err((3, if width == 1 { "3 segment not there" } else { "3 segment of a word not there" }));
     }
-    let loaded = if opcode == 7 { u32::from(memory[place]) } else { 0 };
-    let mut save = save_of(policy, memory, partition);
-    // "Unless said otherwise the counter gains 4."
-    let mut next_counter = counter + 4;
-    let mut stored = None;
+    let right = policy.right(partition, segment);
+    if right & needed == 0 {
+        return Err((3, why_not(needed, right, width)));
+    }
+    // "4 offset at or past the length"; S-2: "All four must lie inside the segment; a large rb must not come round to a small offset", so the sum is one
+    // of plain numbers.
+    let (first, length) = (u64::from(offset), u64::from(policy.size[segment]));
+    let end = first + width as u64;
+    if end > length {
+        return Err((4, why_outside(first, end, length)));
+    }
+    Ok(policy.base[segment] as usize + offset as usize)
+}
+
+fn why_not(needed: u8, right: u8, width: usize) -> &'static str {
+    match (width, needed, right) {
+        (1, R, 0) => "3 load without a right",
+        (1, R, _) => "3 load with w alone",
+        (1, _, 0) => "3 store without a right",
+        (1, _, _) => "3 store with r alone",
+        (_, R, 0) => "3 load word without a right",
+        (_, R, _) => "3 load word with w alone",
+        (_, _, 0) => "3 store word without a right",
+        (_, _, _) => "3 store word with r alone",
+    }
+}
+
+fn why_outside(first: u64, end: u64, length: u64) -> &'static str {
+    match end - first {
+        4 if end > 1 << 32 => "4 word that would come round",
+        4 if length < 4 => "4 word in a segment below four bytes",
+        4 if first < length => "4 word over the segment's end",
+        4 => "4 word past the segment's end",
+        _ if first == length => "4 offset at the length",
+        _ => "4 offset past the length",
+    }
+}
+
+/// What the other instructions do with the save segment, and the counter after them.
+fn effect(save: &mut Save, [opcode, a, b, c]: [u8; 4], counter: u16) -> u16 {
+    // "The number n is b + 256 × c."
+    let n = u16::from(b) + 256 * u16::from(c);
     match opcode {
         // "0 halt: state 1, counter stays"
         0 => {
             save.bytes[STATE] = HALTED;
-            next_counter = counter;
+            return counter;
         }
         // "1 set: ra = n"
         1 => save.set_register(a, u32::from(n)),
@@ -194,16 +262,9 @@ fn instruction(policy: &Policy, memory: &mut [u8], partition: usize, in_handler:
         5 => save.set_register(a, save.register(b) ^ save.register(c)),
         // "6 shift: ra = rb moved right by (rc modulo 32) bits, zeros in"
         6 => save.set_register(a, save.register(b) >> (save.register(c) % 32)),
-        // "7 load: ra = byte at offset rb of segment c"
-        7 => save.set_register(a, loaded),
-        // "8 store: that byte = ra modulo 256"
-        8 => stored = Some((save.register(a) % 256) as u8),
         // "9 jump: counter = n if ra is not 0"
-        9 => {
-            if save.register(a) != 0 {
-                next_counter = n;
-            }
-        }
+        9 if save.register(a) != 0 => return n,
+        9 => (),
         // "10 wait: state 3"
         10 => save.bytes[STATE] = WAITING,
         // "11 listen: enabled = a, handler place = n"
@@ -213,15 +274,12 @@ fn instruction(policy: &Policy, memory: &mut [u8], partition: usize, in_handler:
         }
         // "12 back: counter = return place, in-handler 0"
         _ => {
-            next_counter = save.two(RETURN);
             save.bytes[IN_HANDLER] = 0;
+            return save.two(RETURN);
         }
     }
-    save.set_two(COUNTER, next_counter);
-    if let Some(byte) = stored {
-        memory[place] = byte;
-    }
-    Ok(opcode)
+    // "Unless said otherwise the counter gains 4."
+    counter + 4
 }
 
 /// "After each tick the ticks used in the slot gain 1. At the slot's ticks the next slot begins with 0 used; after the last comes slot 0."

@@ -18,7 +18,9 @@ paired-requires c κs = search needs
 
 returns : tie.Need-returns
 unfolding half
-returns c = cc
+returns c =
+    let second = c .before in
+    rw (c .paired .ensures, second .byte-at2 .ensures, second .before .byte-at .ensures)
 
 pub get-half-spec : {M : Type 1} → statement M
 get-half-spec =

@@ -33,7 +33,17 @@ joined-requires c κs = search needs
 
 returns : tie.Need-returns
 unfolding word
-returns c = cc
+returns c =
+    let fourth = c .before in
+    let third = fourth .before in
+    let second = third .before in
+    rw (
+      c .joined .ensures,
+      fourth .byte-at4 .ensures,
+      third .byte-at3 .ensures,
+      second .byte-at2 .ensures,
+      second .before .byte-at .ensures,
+    )
 
 pub get-word-spec : {M : Type 1} → statement M
 get-word-spec =

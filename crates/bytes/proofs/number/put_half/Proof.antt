@@ -24,7 +24,10 @@ same-length c = search needs
 
 returns : tie.Need-returns
 unfolding withHalf
-returns c = cc
+returns c =
+    let second = c .before .before in
+    let first = second .before .before .before .before .before in
+    rw (second .put2 .ensures, second .before .digit .ensures, first .put .ensures, first .before .low .ensures)
 
 pub put-half-spec : {M : Type 1} → statement M
 put-half-spec =

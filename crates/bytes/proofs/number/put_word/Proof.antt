@@ -45,7 +45,21 @@ same-length c = search needs
 
 returns : tie.Need-returns
 unfolding withWord
-returns c = cc
+returns c =
+    let fourth = c .before .before in
+    let third = fourth .before .before .before .before .before in
+    let second = third .before .before .before .before .before in
+    let first = second .before .before .before .before .before in
+    rw (
+      fourth .put4 .ensures,
+      fourth .before .digit3 .ensures,
+      third .put3 .ensures,
+      third .before .digit2 .ensures,
+      second .put2 .ensures,
+      second .before .digit .ensures,
+      first .put .ensures,
+      first .before .low .ensures,
+    )
 
 pub put-word-spec : {M : Type 1} → statement M
 put-word-spec =

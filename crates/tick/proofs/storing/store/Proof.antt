@@ -1,6 +1,6 @@
 -- The right decides first, and the store by numbers is the effect applied.
 use denote.Ref.{now}
-use Rattle.machine.specs.Tick.{storesByte}
+use Rattle.machine.specs.Tick.{storesBytes}
 use Rattle.tick.specs.Seat.{seatOf}
 use Rattle.tick.proofs.Laws.Reach.{reach-base, reach-size, reach-inside, stored-to}
 use borrow.Author.Needs.{needs}
@@ -43,6 +43,7 @@ returns c reads =
       e .before .entry .ensures,
       stored-to
           (seatOf (now (a .base)) (now (a .size)) reads (a .writes) (a .segments))
+          1
           (now (a .memory))
           (a .from)
           (a .a)
@@ -57,7 +58,7 @@ same-length-2 : tie.Need-same-length-2
 same-length-2 c = search needs
 
 returns-2 : tie.Need-returns-2
-unfolding storesByte
+unfolding storesBytes
 returns-2 c reads =
     let i = c .before .before .before .before in
     rw (c .before .before .fault .ensures, ← i .before .may .ensures, i .if1 .left)

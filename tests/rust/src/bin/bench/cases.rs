@@ -4,7 +4,7 @@ use crate::timed::Timed;
 use separation::boundary::MEMORY;
 use separation::generate::policies::{full_in_hexadecimal, longest};
 use separation::generate::texts::{hexadecimal_text_of, text_of};
-use separation::generate::workloads::{copy, few_flows, least, policy_of, programs, COMPUTE};
+use separation::generate::workloads::{copy, copy_words, few_flows, least, policy_of, programs, COMPUTE};
 
 pub const DEMONSTRATION: &[u8] = include_bytes!("../../../../../policies/demonstration.policy");
 
@@ -33,13 +33,17 @@ const fn call(name: &'static str, calls: u32, time: fn(&dyn Timed, u32) -> f64) 
 /// Its calls time one another, so that its instructions are not counted.
 pub const INTERRUPTS: &str = "tick, interrupts (taken and back in turn)";
 
-pub const CASES: [Case; 19] = [
+pub const CASES: [Case; 20] = [
     tick("tick, compute loop", |kernel, calls| {
         let (policy, memory) = programs(&COMPUTE, &COMPUTE);
         kernel.run(&policy, &memory, RUN, calls)
     }),
     tick("tick, load-and-store copy loop", |kernel, calls| {
         let (policy, memory) = programs(&copy(5, 4), &copy(4, 5));
+        kernel.run(&policy, &memory, RUN, calls)
+    }),
+    tick("tick, word copy loop", |kernel, calls| {
+        let (policy, memory) = programs(&copy_words(5, 4), &copy_words(4, 5));
         kernel.run(&policy, &memory, RUN, calls)
     }),
     tick("tick, idle (one halted, one waiting)", |kernel, calls| {

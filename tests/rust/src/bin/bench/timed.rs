@@ -39,8 +39,9 @@ impl<K: Kernel> Timed for K {
             place = result.place;
         }
         let time = ns(begun, calls * ticks.max(1));
-        black_box(&memory);
-        time
+        // An earlier kernel may not have the opcodes, and the time of a faulted partition would say nothing.
+        let faulted = (0..policy.partitions as usize).any(|p| black_box(&memory)[save_base(policy, p) + STATE] == 2);
+        [time, f64::NAN][faulted as usize]
     }
 
     fn interrupts(&self, calls: u32) -> f64 {

@@ -1,0 +1,101 @@
+-- The offset is read first, and the code's two cases are those of `loadedFrom`.
+use native.Mathlib.Nat.{add-sub-cancel-left}
+use borrow.Author.Tests.{le-leb, lt-leb}
+use Rattle.machine.specs.Tick.{inSegment}
+use Rattle.machine.proofs.Laws.Numbers.{little-word}
+use Rattle.parts.specs.Parts.{loadedFrom}
+use borrow.Author.Needs.{needs}
+use Rattle.parts.proofs.load_word_from.Statement.{statement}
+use Rattle.parts.proofs.load_word_from.Tie as tie
+
+get-register-requires : tie.Need-get-register-requires
+get-register-requires c κs = search needs
+
+cast-if1 : tie.Need-cast-if1
+cast-if1 c = search needs
+
+add-if1 : tie.Need-add-if1
+add-if1 c = search needs
+
+fault-requires : tie.Need-fault-requires
+fault-requires c κs = search needs
+
+same-length : tie.Need-same-length
+same-length c = search needs
+
+returns : tie.Need-returns
+unfolding loadedFrom inSegment
+returns c =
+    let i = c .before .before .before .before in
+    rw (c .before .before .fault .ensures, ← i .before .get-register .ensures, lt-leb _ _ (i .if1 .taken))
+
+add-end : tie.Need-add-end
+add-end c = search needs
+
+sub-word-at : tie.Need-sub-word-at
+sub-word-at c = search needs
+
+part-word-at-start : tie.Need-part-word-at-start
+part-word-at-start c = search needs
+
+part-word-at-end : tie.Need-part-word-at-end
+part-word-at-end c = search needs
+
+word-at-requires : tie.Need-word-at-requires
+word-at-requires c κs = search needs
+
+add-to : tie.Need-add-to
+add-to c = search needs
+
+sub-put-result : tie.Need-sub-put-result
+sub-put-result c = search needs
+
+part-put-result-start : tie.Need-part-put-result-start
+part-put-result-start c = search needs
+
+part-put-result-end : tie.Need-part-put-result-end
+part-put-result-end c = search needs
+
+put-result-requires : tie.Need-put-result-requires
+put-result-requires c κs = search needs
+
+same-length-2 : tie.Need-same-length-2
+same-length-2 c = search needs
+
+returns-2 : tie.Need-returns-2
+unfolding loadedFrom inSegment
+returns-2 c =
+    let b = c .before .before .before .before in
+    let i = b .before .before .before in
+    rw (
+      c .before .before .put-result .ensures,
+      add-sub-cancel-left,
+      ← i .before .get-register .ensures,
+      le-leb _ _ (i .if1 .left),
+      little-word,
+      b .word-at .ensures,
+      add-sub-cancel-left,
+    )
+
+pub load-word-from-spec : {M : Type 1} → statement M
+load-word-from-spec =
+    tie.close
+    (tie.spec
+    get-register-requires
+    cast-if1
+    add-if1
+    fault-requires
+    same-length
+    returns
+    add-end
+    sub-word-at
+    part-word-at-start
+    part-word-at-end
+    word-at-requires
+    add-to
+    sub-put-result
+    part-put-result-start
+    part-put-result-end
+    put-result-requires
+    same-length-2
+    returns-2)
