@@ -1,5 +1,6 @@
 -- A decoded instruction has the opcode that it was decoded from, and an opcode above the highest is none.
 use Prim.Native.Nat.{ℕ, _≤_, _<_}
+use native.Mathlib.Omega.{arith}
 use mathlib.Core.Path.{_≡_, refl, sym, _∙_, ap}
 use mathlib.Core.Bool.{Bool, true, false, false≢true, cond}
 use lib.Dec.{ltb, eqb}
@@ -8,7 +9,7 @@ use borrow.Author.Tests.{eqb-true, ltb-true, ltb-false, lt-ltb}
 use Rattle.machine.specs.declared.Instr.{Instr}
 use Rattle.machine.specs.declared.Decoded.{Decoded}
 use Rattle.machine.specs.declared.Decoded.the-variants.{Runs, Bad}
-use Rattle.machine.specs.Decode.{opcodeOf, registerMasks, operandsFit, instructionOf, decodeOf}
+use Rattle.machine.specs.Decode.{lastOpcodeOf01, opcodeOf, registerMasks, operandsFit, instructionOf, decodeOf}
 use Rattle.machine.proofs.Laws.Tests.{cond-both}
 
 -- What is decoded has this opcode, if it is an instruction.
@@ -75,3 +76,7 @@ opcode-listed last op a b c i e = rw (opcode-kept last op a b c i e) (go (ltb la
     go : (t : Bool) → ltb last op ≡ t → op ≤ last
     go true f = absurd (false≢true (ap isRuns (sym (decode-above last op a b c (ltb-true last op f)) ∙ e)))
     go false f = ltb-false last op f
+
+-- 02, S-2, of 13 and 14: "Both opcodes were fault 2 until now."
+pub were-faults : (op a b c : ℕ) → 13 ≤ op → decodeOf lastOpcodeOf01 op a b c ≡ Bad
+were-faults op a b c h = decode-above lastOpcodeOf01 op a b c (omega arith)
