@@ -2,7 +2,7 @@
 use crate::entry::byte_at;
 use crate::entry::put;
 ghost use mathlib.Core.Path.{_≡_};
-ghost use Prim.Native.Nat.{_+_, _*_, _/_, _%_, _<_};
+ghost use Prim.Native.Nat.{_+_, _*_, _/_, _%_, _<_, _≤_};
 ghost use Rattle.bytes.specs.Numbers.{half, word, withHalf, withWord};
 
 fn paired(a: u8, b: u8) -> u16
@@ -37,11 +37,11 @@ pub fn get_half(s: &[u8], at: u16) -> u16
     paired(byte_at(s, i), byte_at(s, i + 1))
 }
 
-// A word is named by its register, of four bytes each from 0 on.
-pub fn get_word(s: &[u8], r: u32) -> u32
-    ensures { λ x. ⌜ x ≡ word (now (s .entry)) (4 * r) ⌝ }
+// Up to the highest place that a register's number gives, 4 * 4,294,967,295, so that no sum wraps.
+fn word_from(s: &[u8], i: usize) -> u32
+    requires { ⌜ i ≤ 17179869180 ⌝ }
+    ensures { λ x. ⌜ x ≡ word (now (s .entry)) i ⌝ }
 {
-    let i = 4 * (r as usize);
     joined(
         byte_at(s, i),
         byte_at(s, i + 1),
@@ -50,17 +50,18 @@ pub fn get_word(s: &[u8], r: u32) -> u32
     )
 }
 
+// A word is named by its register, of four bytes each from 0 on.
+pub fn get_word(s: &[u8], r: u32) -> u32
+    ensures { λ x. ⌜ x ≡ word (now (s .entry)) (4 * r) ⌝ }
+{
+    word_from(s, 4 * (r as usize))
+}
+
 // A word at any place.
 pub fn word_at(s: &[u8], at: u32) -> u32
     ensures { λ x. ⌜ x ≡ word (now (s .entry)) at ⌝ }
 {
-    let i = at as usize;
-    joined(
-        byte_at(s, i),
-        byte_at(s, i + 1),
-        byte_at(s, i + 2),
-        byte_at(s, i + 3),
-    )
+    word_from(s, at as usize)
 }
 
 // A u32, so that no caller has to bound the number: it is kept modulo 65,536.
@@ -72,22 +73,24 @@ pub fn put_half(s: &mut [u8], at: u16, n: u32)
     put(s, i + 1, digit(n, 256));
 }
 
-pub fn put_word(s: &mut [u8], r: u32, n: u32)
-    ensures { λ _. ⌜ now (s .exit) ≡ withWord (now (s .entry)) (4 * r) n ⌝ }
+fn put_word_from(s: &mut [u8], i: usize, n: u32)
+    requires { ⌜ i ≤ 17179869180 ⌝ }
+    ensures { λ _. ⌜ now (s .exit) ≡ withWord (now (s .entry)) i n ⌝ }
 {
-    let i = 4 * (r as usize);
     put(s, i, low(n));
     put(s, i + 1, digit(n, 256));
     put(s, i + 2, digit(n, 65536));
     put(s, i + 3, digit(n, 16777216));
 }
 
+pub fn put_word(s: &mut [u8], r: u32, n: u32)
+    ensures { λ _. ⌜ now (s .exit) ≡ withWord (now (s .entry)) (4 * r) n ⌝ }
+{
+    put_word_from(s, 4 * (r as usize), n);
+}
+
 pub fn put_word_at(s: &mut [u8], at: u32, n: u32)
     ensures { λ _. ⌜ now (s .exit) ≡ withWord (now (s .entry)) at n ⌝ }
 {
-    let i = at as usize;
-    put(s, i, low(n));
-    put(s, i + 1, digit(n, 256));
-    put(s, i + 2, digit(n, 65536));
-    put(s, i + 3, digit(n, 16777216));
+    put_word_from(s, at as usize, n);
 }

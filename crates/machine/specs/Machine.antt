@@ -55,10 +55,11 @@ module _ (v : View) where
       let p = current x in
       record { memory = tickOf (seatUpTo last p) (v .code p) (v .save p) (x .memory); place = moved v (x .place) }
 
-  -- This machine.
+  -- The same on this machine.
   abbrev pub seat : ℕ → Seat
   seat p = seatUpTo lastOpcode p
 
+  -- One tick of this machine.
   unfoldable pub next : State → State
   next x = nextUpTo lastOpcode x
 

@@ -68,8 +68,8 @@ module _ (S : Seat) where
   sees code save memory =
       record { saved = part memory (S .base save) (layout .size); code = segmentOf code memory; look = looks memory }
 
-  -- 7 load: "ra = byte at offset rb of segment c", of width 1; 13 "loads [..] four bytes, little-endian, at offsets rb
-  -- to rb + 3 of segment c"; faults 3, then 4
+  -- 7 load, of width 1: "ra = byte at offset rb of segment c"; 02, S-2: 13, of width 4, "loads [..] four bytes,
+  -- little-endian, at offsets rb to rb + 3 of segment c"; faults 3, then 4
   unfoldable pub loads : ℕ → List ℕ → (ℕ → List ℕ) → ℕ → ℕ → ℕ → List ℕ
   loads width save look a b c =
       cond (mayLoad c)
@@ -78,7 +78,8 @@ module _ (S : Seat) where
       (faults save OffsetOver))
       (faults save NoRight)
 
-  -- 8 store: "that byte = ra modulo 256", of width 1; 14 "stores four bytes, little-endian"; faults 3, then 4
+  -- 8 store, of width 1: "that byte = ra modulo 256"; 02, S-2: 14, of width 4, "stores four bytes, little-endian", at
+  -- those offsets; faults 3, then 4
   unfoldable pub storesBytes : ℕ → List ℕ → ℕ → ℕ → ℕ → Effect
   storesBytes width save a b c =
       cond (mayStore c)

@@ -1,7 +1,9 @@
 -- A byte set in the segment that is lent is set at its place in memory.
-use borrow.Rule.Slice.PartMut.{set-mid-at, mid-len}
+use denote.Ref.{now}
+use native.Mathlib.Nat.{add-sub-cancel-left}
 use native.Mathlib.Omega.{arith}
-use Prim.Native.Nat.{_+_, _-_}
+use mathlib.Core.List.{[], _∷_}
+use Rattle.machine.proofs.Laws.Parts.{with-part-sets}
 use borrow.Author.Needs.{needs}
 use Rattle.parts.proofs.store_at.Statement.{statement}
 use Rattle.parts.proofs.store_at.Tie as tie
@@ -26,10 +28,10 @@ same-length c = search needs
 
 returns : tie.Need-returns
 returns c =
-    let a = c .before .before .before .before .before .args in
-    rw (c .before .before .put .ensures)
-    (set-mid-at (a .start) (a .start + a .size - a .start) (a .at) (a .memory .now) (a .b)
-    (omega (arith, mid-len (a .start) (a .start + a .size) (a .memory .now) (omega arith))))
+    let p = c .before .before .before .before .before in
+    let a = p .args in
+    rw (c .before .before .put .ensures, add-sub-cancel-left)
+    (with-part-sets (now (a .memory)) (a .start) (a .size) (a .at) (a .b ∷ []) (omega (arith, p .pre .1)))
 
 pub store-at-spec : {M : Type 1} → statement M
 store-at-spec =

@@ -1,11 +1,8 @@
 -- The four bytes read, joined as the definition joins them.
 use Rattle.bytes.specs.Numbers.{word}
 use borrow.Author.Needs.{needs}
-use Rattle.bytes.proofs.number.get_word.Statement.{statement}
-use Rattle.bytes.proofs.number.get_word.Tie as tie
-
-mul-i : tie.Need-mul-i
-mul-i c = search needs
+use Rattle.bytes.proofs.number.word_from.Statement.{statement}
+use Rattle.bytes.proofs.number.word_from.Tie as tie
 
 byte-at-requires : tie.Need-byte-at-requires
 byte-at-requires c κs = search needs
@@ -45,11 +42,10 @@ returns c =
       second .before .byte-at .ensures,
     )
 
-pub get-word-spec : {M : Type 1} → statement M
-get-word-spec =
+pub word-from-spec : {M : Type 1} → statement M
+word-from-spec =
     tie.close
     (tie.spec
-    mul-i
     byte-at-requires
     add-byte-at
     byte-at-requires-2

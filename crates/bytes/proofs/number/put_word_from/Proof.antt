@@ -1,11 +1,8 @@
 -- The four bytes are put in the order of the definition.
 use Rattle.bytes.specs.Numbers.{withWord}
 use borrow.Author.Needs.{needs}
-use Rattle.bytes.proofs.number.put_word.Statement.{statement}
-use Rattle.bytes.proofs.number.put_word.Tie as tie
-
-mul-i : tie.Need-mul-i
-mul-i c = search needs
+use Rattle.bytes.proofs.number.put_word_from.Statement.{statement}
+use Rattle.bytes.proofs.number.put_word_from.Tie as tie
 
 low-requires : tie.Need-low-requires
 low-requires c κs = search needs
@@ -61,11 +58,10 @@ returns c =
       first .before .low .ensures,
     )
 
-pub put-word-spec : {M : Type 1} → statement M
-put-word-spec =
+pub put-word-from-spec : {M : Type 1} → statement M
+put-word-from-spec =
     tie.close
     (tie.spec
-    mul-i
     low-requires
     put-requires
     add-put
