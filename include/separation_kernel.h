@@ -9,10 +9,11 @@
 #include <stdint.h>
 
 /* 2.0: rights and flows are masks; a record of 1.x does not fit.
- * 2.1: opcodes 13 and 14 load and store four bytes. Both were faults, so memory may now act otherwise under the same policy. */
+ * 2.1: opcodes 13 and 14 load and store four bytes. Both were faults, so memory may now act otherwise under the same policy.
+ * 2.2: a flow line into a save segment from a segment that its partition may not read is refused: the text by 16, the record by 10. */
 #define SEPARATION_KERNEL_VERSION_MAJOR 2
-#define SEPARATION_KERNEL_VERSION_MINOR 1
-#define SEPARATION_KERNEL_VERSION "2.1"
+#define SEPARATION_KERNEL_VERSION_MINOR 2
+#define SEPARATION_KERNEL_VERSION "2.2"
 
 /* The bytes of memory that Start, Pend and Run take, and the most bytes of a policy text. */
 #define SK_MEMORY_BYTES 16384
@@ -22,23 +23,25 @@
 extern "C" {
 #endif
 
-/* The answers: 0, or why a text or call was refused. Of several reasons the first counts; 2 to 5 are those of the first bad line. */
+/* The answers: 0, or why a text or call was refused. Of several reasons the first counts, and 16 comes after 8; 2 to 5 are those of the
+ * first bad line. */
 enum sk_refusal {
-    SK_DONE = 0,           /* accepted, or done */
-    SK_TEXT_TOO_LONG = 1,  /* over 16,384 bytes */
-    SK_BAD_LINE = 2,       /* unknown word, wrong fields, bad number (sk_read says the form) or letters, no line end */
-    SK_OUT_OF_ORDER = 3,   /* kind, id or pair out of order */
-    SK_OUT_OF_RANGE = 4,   /* too many lines of a kind, a number out of range, a partition or segment that isn't there */
-    SK_CLASH = 5,          /* segments overlap, a save segment misused, a flow from a segment to itself */
-    SK_EMPTY = 6,          /* no segment, partition or slot */
-    SK_CODE_NOT_READ = 7,  /* a partition lacks r on its code segment */
-    SK_FLOW_MISSING = 8,   /* a partition could carry bytes where no flow line allows it */
-    SK_MEMORY_LENGTH = 9,  /* memory isn't 16,384 bytes */
-    SK_RECORD = 10,        /* the record is that of no accepted text */
-    SK_NO_PARTITION = 11,  /* no such partition */
-    SK_NO_LINE = 12,       /* interrupt line above 7 */
-    SK_PLACE = 13,         /* slot not in the schedule, or its ticks used up */
-    SK_TOO_MANY_TICKS = 14 /* over 10,000 ticks in one Run */
+    SK_DONE = 0,            /* accepted, or done */
+    SK_TEXT_TOO_LONG = 1,   /* over 16,384 bytes */
+    SK_BAD_LINE = 2,        /* unknown word, wrong fields, bad number (sk_read says the form) or letters, no line end */
+    SK_OUT_OF_ORDER = 3,    /* kind, id or pair out of order */
+    SK_OUT_OF_RANGE = 4,    /* too many lines of a kind, a number out of range, a partition or segment that isn't there */
+    SK_CLASH = 5,           /* segments overlap, a save segment misused, a flow from a segment to itself */
+    SK_EMPTY = 6,           /* no segment, partition or slot */
+    SK_CODE_NOT_READ = 7,   /* a partition lacks r on its code segment */
+    SK_FLOW_MISSING = 8,    /* a partition could carry bytes where no flow line allows it */
+    SK_MEMORY_LENGTH = 9,   /* memory isn't 16,384 bytes */
+    SK_RECORD = 10,         /* the record is that of no accepted text */
+    SK_NO_PARTITION = 11,   /* no such partition */
+    SK_NO_LINE = 12,        /* interrupt line above 7 */
+    SK_PLACE = 13,          /* slot not in the schedule, or its ticks used up */
+    SK_TOO_MANY_TICKS = 14, /* over 10,000 ticks in one Run */
+    SK_STRAY_SOURCE = 16    /* a flow line into a save segment from a segment that its partition may not read */
 };
 
 /* A policy, in 436 bytes without a hole: memcmp compares two of them, and two reads of one text are equal by it. The counts are at most 32, 8 and 32;
@@ -77,8 +80,8 @@ struct sk_run_result {
     struct sk_place place;
 };
 
-/* Reads a policy text. Accepted: number 0, line 0 and its record. Refused: 1 to 8, the bad line counted from 1 (0 if it is no single line's fault),
- * and the record of zeros.
+/* Reads a policy text. Accepted: number 0, line 0 and its record. Refused: 1 to 8 or 16, the bad line counted from 1 (0 if it is no single line's
+ * fault), and the record of zeros.
  *
  * A number is decimal, of 1 to 5 digits, or since 1.1 hexadecimal: 0x and 1 to 4 digits 0-9 or a-f. No leading zero, except in 0 and 0x0. Both forms may
  * be mixed, so several texts may give one record. */

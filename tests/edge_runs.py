@@ -31,6 +31,16 @@ SHARING = policy(
 )
 # Its flow lines, in the order of rule 8's targets.
 FLOWS = sorted((tuple(int(n) for n in line.split(b"\t")[1:]) for line in SHARING.split(b"\n") if line.startswith(b"flow")), key=lambda f: f[::-1])
+# Partitions 0, 1, 2 have the code segments 4, 0, 7 and the save segments 3, 6, 1; partition 1 has no slot. All write 2, which nobody reads. 5, 8, 9 are
+# read by partitions 0, 1, 2 alone and written by 1, 2, 0. 10 has no right, nor has 11, which is as long as a save segment.
+SOURCES = policy(
+    [(64 * i, 44 if i in (1, 3, 6, 11) else 16) for i in range(12)],
+    [(4, 3), (0, 6), (7, 1)],
+    [(0, 2, "w"), (0, 4, "r"), (0, 5, "r"), (0, 9, "w"), (1, 0, "r"), (1, 2, "w"), (1, 5, "w"), (1, 8, "r"), (2, 2, "w"), (2, 7, "r"), (2, 8, "w"), (2, 9, "r")],
+    [(0, 2), (2, 1)],
+)
+# What its partition may read, by save segment.
+READ = {3: (3, 4, 5), 6: (0, 6, 8), 1: (1, 7, 9)}
 
 # Start, Pend and Run where they act.
 K5 = code(SET(0, 65), STORE(0, 1, 4), HALT)
@@ -90,7 +100,7 @@ TURNS = [
     ("writes", 0, [(4,), (0,), (2,), (1,), (3,), (5,), (31,), range(32)]), ("writes", 1, [(4,), (2,), (1,), (3,), (6,)]),
     # Partitions that aren't there.
     ("reads", 2, [(0,), (31,), range(32)]), ("reads", 7, [(0,), (4,), (31,)]), ("writes", 2, [(0,), (4,)]), ("writes", 7, [(4,), (31,), range(32)]),
-    # A line missing, one more, from a segment to itself, from a segment that isn't there.
+    # A line missing, one more (stray where it goes into 1 or 3), from a segment to itself, from a segment that isn't there.
     ("sources", 0, [(1,), (4,), (1, 2, 3, 4), (0,), (5,), (31,), range(32)]), ("sources", 1, [(0,), (4,), (1,), (0, 1), (5,)]),
     ("sources", 3, [(2,), (4,), (2, 4), (0,), (3,), (16,)]), ("sources", 4, [(0,), (1,), (0, 1), (2,), (2, 3), (4,), (5,), (31,)]),
     # Segments that aren't there.
@@ -105,6 +115,9 @@ for field, index, all_bits in TURNS:
 s = add("record-bit-31", FULL).write(4096 + 40 * 7, code(LOAD(0, 1, 31), LOAD(2, 1, 30))).start()
 for index in (6, 7):
     s.turn("reads", index, 31).start().turn("reads", index, 31).turn("writes", index, 31).start().turn("writes", index, 31)
+# Nobody reads it, so it is no source of the first or the last save segment.
+for t in (0, 7):
+    s.turn("sources", t, 31).start().turn("sources", t, 31)
 s.turn("reads", 7, 31).at(31, 0)
 for t in (7, 23):
     s.run(1).turn("sources", t, 31)
@@ -119,6 +132,23 @@ for a, b in FLOWS:
     s.turn("sources", b, a).start()
 for a, b in FLOWS:
     s.turn("sources", b, a).start()
+# A stray line into the save segment of partition 0, 1 and 2, from each segment that it can't read. Each call would show in memory if it acted: partition 0
+# is ready, and line 1 is pended for nobody.
+s = add("record-stray", SOURCES).write(224, bytes(12)).write(256, SET(0, 1))
+for p, (t, read) in enumerate(READ.items()):
+    s.at(0, 1)
+    for source in [i for i in range(12) if i not in read]:
+        s.turn("sources", t, source).run(1).pend(p, 1).start().turn("sources", t, source)
+# A stray line, the right to read, and the line that rule 8 then asks for; the right taken again, and the line too.
+s = add("record-stray-mended", SOURCES).turn("sources", 3, 0).start().turn("reads", 0, 0).start().turn("sources", 9, 0).start().pend(0, 0).run(2)
+s.turn("reads", 0, 0).start().turn("sources", 3, 0).start().run(1)
+# All sources into 11, and then into each other segment that is no save segment.
+s.change("sources", 11, 2047).start()
+for t in [i for i in range(11) if i not in READ]:
+    s.change("sources", t, 4095 - (1 << t))
+s.start().pend(1, 0).run(3).turn("sources", 6, 5).start().turn("sources", 6, 5).start()
+# The right to read segment 4 taken away, and then the line that it allowed.
+add("record-read-taken", DEMO).write(0, K5).turn("reads", 1, 4).start().turn("sources", 3, 4).start().pend(1, 0).run(2)
 add("record-of-zeros", b"").start().pend(0, 0).run(0).pend(0, 8).at(1, 1).run(10001)
 add("record-order", DEMO).turn("sources", 1, 1).start().pend(2, 8).at(2, 0).run(10001).turn("sources", 1, 1).pend(2, 8).run(10001).at(0, 0).run(10001).pend(0, 8)
 add("record-right-taken", DEMO).write(0, K5).start().turn("writes", 0, 4).turn("sources", 4, 1).run(3).look(64, 44).look(256, 1)

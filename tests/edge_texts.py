@@ -1,65 +1,17 @@
 #!/usr/bin/env python3
-"""Policy texts at the edges of refusals 1 to 8, for the test program crates/texts.
+"""Policy texts at the edges of refusals 1 to 8 and 16, for the test program crates/texts.
 
     edge_texts.py ROOT     writes crates/texts/data/cases and crates/texts/stdout below the repository ROOT
 
 A case is its name, filled up with spaces to 40 bytes, its length in 7 digits, a line end, and then that many bytes. The expected answers come from policy_reference.py.
+edge_sources.py has the texts with flow lines into save segments that refusal 16 is about.
 """
 import os
 import sys
 
+from edge_sources import add_sources
 from policy_reference import read
-
-
-def text(*lines, end=b"\n"):
-    return b"".join(l.replace(b" ", b"\t") + end for l in lines)
-
-
-DEMO = [
-    b"segment 0 0 64", b"segment 1 64 44", b"segment 2 128 64", b"segment 3 192 44", b"segment 4 256 16",
-    b"partition 0 0 1", b"partition 1 2 3",
-    b"right 0 0 r", b"right 0 4 w", b"right 1 2 r", b"right 1 4 r",
-    b"flow 0 1", b"flow 0 4", b"flow 1 4", b"flow 2 3", b"flow 4 3",
-    b"slot 0 3", b"slot 1 2",
-]
-
-
-def demo(*changes):
-    """The demonstration text with lines replaced (i, line), left out (i, None) or put before i (-1 - i, line)."""
-    lines = list(DEMO)
-    for i, line in sorted(changes, key=lambda c: -(c[0] if c[0] >= 0 else -1 - c[0])):
-        if i < 0:
-            lines.insert(-1 - i, line)
-        elif line is None:
-            del lines[i]
-        else:
-            lines[i] = line
-    return text(*lines)
-
-
-def small(segments=None, partitions=None, rights=None, flows=None, slots=None):
-    """A least policy: code 0, save 1, one partition."""
-    return text(
-        *(segments or [b"segment 0 0 64", b"segment 1 64 44"]),
-        *(partitions if partitions is not None else [b"partition 0 0 1"]),
-        *(rights if rights is not None else [b"right 0 0 r"]),
-        *(flows if flows is not None else [b"flow 0 1"]),
-        *(slots if slots is not None else [b"slot 0 1"]),
-    )
-
-
-def many_segments(n):
-    return [b"segment %d %d 44" % (i, 44 * i) for i in range(n)]
-
-
-def longest():
-    """Every segment, partition, right, flow and slot that there is room for, with wide numbers."""
-    segments = [b"segment %d %d %d" % (i, 12000 + 44 * i, 44) if i < 8 else b"segment %d %d %d" % (i, 100 * i + 1000, 100) for i in range(32)]
-    partitions = [b"partition %d %d %d" % (p, 31, p) for p in range(8)]
-    rights = [b"right %d %d rw" % (p, s) for p in range(8) for s in range(8, 32)]
-    flows = [b"flow %d %d" % (a, b) for a in range(32) for b in range(32) if a != b]
-    slots = [b"slot 7 1000" for _ in range(32)]
-    return segments + partitions + rights + flows + slots
+from text_parts import CASES, DEMO, add, demo, hexed, longest, many_segments, small, text
 
 
 def padded(n):
@@ -69,15 +21,8 @@ def padded(n):
     return body + (b"slot\t7\t1\n" * (rest // 9 + 1))[:rest]
 
 
-def hexed(lines, form=lambda line, field: True):
-    """Lines with their numbers in hexadecimal, those at the places (line, field) that `form` picks."""
-    write = lambda at, f: b"0x%x" % int(f) if f.isdigit() and form(*at) else f
-    return [b" ".join(write((i, j), f) for j, f in enumerate(line.split(b" "))) for i, line in enumerate(lines)]
-
-
-
-CASES = [("demonstration", demo()), ("least", small())]
-add = lambda name, t: CASES.append((name, t))
+add("demonstration", demo())
+add("least", small())
 
 # 1, and input of any kind
 add("bytes-16384", padded(16384))
@@ -200,7 +145,7 @@ add("right-on-other-save", demo((8, b"right 0 3 r")))
 add("flow-to-itself", demo((12, b"flow 1 1")))
 add("unsaved-44", small(segments=[b"segment 0 0 64", b"segment 1 64 44", b"segment 2 108 44"], rights=[b"right 0 0 r", b"right 0 2 r"], flows=[b"flow 0 1", b"flow 2 1"]))
 
-# 6, 7, 8
+# 6, 7, 8, 16
 add("no-slot", text(*DEMO[:16]))
 add("only-segments", text(*DEMO[:5]))
 add("no-right", small(rights=[]))
@@ -212,7 +157,8 @@ add("flow-code-save-missing", demo((11, None)))
 add("flow-code-target-missing", demo((12, None)))
 add("flow-save-target-missing", demo((13, None)))
 add("flow-other-missing", demo((15, None)))
-add("flow-more", demo((-1 - 15, b"flow 4 1")))
+add("flow-more", demo((-1 - 15, b"flow 4 0")))
+add("flow-more-into-save", demo((-1 - 15, b"flow 4 1")))
 add("flow-w-alone", small(segments=[b"segment 0 0 64", b"segment 1 64 44", b"segment 2 200 8"], rights=[b"right 0 0 r", b"right 0 2 w"], flows=[b"flow 0 1", b"flow 0 2", b"flow 1 2"]))
 add("flow-rw", small(segments=[b"segment 0 0 64", b"segment 1 64 44", b"segment 2 200 8"], rights=[b"right 0 0 r", b"right 0 2 rw"], flows=[b"flow 0 1", b"flow 0 2", b"flow 1 2"]))
 add("flow-rw-all", small(segments=[b"segment 0 0 64", b"segment 1 64 44", b"segment 2 200 8"], rights=[b"right 0 0 r", b"right 0 2 rw"], flows=[b"flow 0 1", b"flow 0 2", b"flow 1 2", b"flow 2 1"]))
@@ -308,14 +254,18 @@ add("hex-text-0x-line", b"0x\n")
 
 
 def filled(n):
-    """All numbers in hexadecimal, n bytes in all: fewer rights than there is room for, and some r for rw."""
+    """All numbers in hexadecimal, n bytes in all: fewer rights than there is room for, each gone with the line that it allows into the save segment, and some
+    r for rw."""
     lines = hexed(longest())
-    spare = [i for i, line in enumerate(lines) if line.startswith(b"right") and not line.endswith(b"0x1f rw")]
+    spare = [(p, s) for p in range(8) for s in range(8, 31)]
     over = len(text(*lines)) - n
-    while over >= 18:
-        over -= len(lines.pop(spare.pop())) + 1
-    for i in spare[:over]:
-        lines[i] = lines[i].replace(b"rw", b"r")
+    while over >= 32:
+        p, s = spare.pop()
+        for line in (b"right 0x%x 0x%x rw" % (p, s), b"flow 0x%x 0x%x" % (s, p)):
+            lines.remove(line)
+            over -= len(line) + 1
+    for p, s in spare[:over]:
+        lines[lines.index(b"right 0x%x 0x%x rw" % (p, s))] = b"right 0x%x 0x%x r" % (p, s)
     return text(*lines)
 
 
@@ -362,7 +312,7 @@ add("hex-pair-flow-first-falls", demo((15, b"flow 0x1 0x4")))
 add("hex-pair-ascends", demo((12, b"flow 0x0 4"), (13, b"flow 1 0x4")))
 # 9 comes before 0xa and 0x10 after 0xf, though not by their bytes.
 WIDE = many_segments(18) + [b"partition 0 17 0", b"right 0 17 r"]
-add("hex-pair-9-a", text(*WIDE, b"flow 1 9", b"flow 1 0xa", b"flow 0x1 0xf", b"flow 0x1 0x10", b"flow 9 0", b"flow 0xa 0", b"flow 0x10 0", b"flow 17 0", b"slot 0 1"))
+add("hex-pair-9-a", text(*WIDE, b"flow 1 9", b"flow 1 0xa", b"flow 0x1 0xf", b"flow 0x1 0x10", b"flow 9 2", b"flow 0xa 2", b"flow 0x10 2", b"flow 17 0", b"slot 0 1"))
 add("hex-pair-10-f", text(*WIDE, b"flow 1 0x10", b"flow 1 0xf"))
 add("hex-pair-10-decimal-15", text(*WIDE, b"flow 1 0x10", b"flow 1 15"))
 add("hex-pair-16-decimal", text(*WIDE, b"flow 1 0x10", b"flow 1 16"))
@@ -418,10 +368,13 @@ add("hex-3-before-5", demo((1, b"segment 0x2 0x0 44")))
 add("hex-4-before-5", demo((1, b"segment 1 0x3f 0x1388")))
 add("hex-first-line-wins", demo((0, b"segment 0 0 0x0"), (17, b"slot 1 0X2")))
 
+add_sources()
+
 
 def main(root):
     folder = os.path.join(root, "crates", "texts")
     os.makedirs(os.path.join(folder, "data"), exist_ok=True)
+    assert len({name for name, _ in CASES}) == len(CASES) and all(len(name) < 40 for name, _ in CASES)
     with open(os.path.join(folder, "data", "cases"), "wb") as cases, open(os.path.join(folder, "stdout"), "wb") as out:
         for name, t in CASES:
             cases.write(name.encode().ljust(40) + b"%07d\n" % len(t) + t)

@@ -50,6 +50,25 @@ def parse(line):
     return kind, values
 
 
+def whole(segments, partitions, rights, flows, slots, reads, writes):
+    """Which of the refusals with line 0 is due for lines that are all good, or 0."""
+    if not segments or not partitions or not slots:
+        return 6
+    if any(not rights.get((p, code), 0) & 1 for p, (code, _) in enumerate(partitions)):
+        return 7
+    for p in range(len(partitions)):
+        for t in range(len(segments)):
+            for s in range(len(segments)):
+                if s != t and writes(p, t) and reads(p, s) and (s, t) not in flows:
+                    return 8
+    # 02, S-5: "a flow line into p's save segment must come from a segment of R(p). Refused: 16 if a flow line into a save segment has another
+    # source, line 0, after 8."
+    for p, (_, save) in enumerate(partitions):
+        if any(t == save and not reads(p, s) for s, t in flows):
+            return 16
+    return 0
+
+
 def read(text):
     """(number, line, policy or None)"""
     if len(text) > 16384:
@@ -107,18 +126,11 @@ def read(text):
             flows.add((v[0], v[1]))
         else:
             slots.append((v[0], v[1]))
-    if not segments or not partitions or not slots:
-        return 6, 0, None
-    for p, (code, save) in enumerate(partitions):
-        if not rights.get((p, code), 0) & 1:
-            return 7, 0, None
     reads = lambda p, s: s == partitions[p][1] or bool(rights.get((p, s), 0) & 1)
     writes = lambda p, s: s == partitions[p][1] or bool(rights.get((p, s), 0) & 2)
-    for p in range(len(partitions)):
-        for t in range(len(segments)):
-            for s in range(len(segments)):
-                if s != t and writes(p, t) and reads(p, s) and (s, t) not in flows:
-                    return 8, 0, None
+    number_ = whole(segments, partitions, rights, flows, slots, reads, writes)
+    if number_:
+        return number_, 0, None
     return 0, 0, (segments, partitions, slots, reads, writes)
 
 

@@ -10,9 +10,9 @@ use Rattle.policy.specs.Clash.{clashes}
 use Rattle.policy.specs.Draft.{added}
 use Rattle.policy.specs.Order.{outOfOrder}
 use Rattle.policy.specs.Range.{outOfRange}
-use Rattle.policy.specs.Read.{lineRefusal, wholeRefusal, readLines, readBy}
+use Rattle.policy.specs.Read.{lineRefusal, wholeRefusal, readLinesBy, readBy}
 use Rattle.policy.specs.Sound.{goodSegment, goodPartition, goodSlot, goodRight, goodFlow, allZero, isShaped, countsFit, unusedZero, allUnder, masksFit, linesHold, soundOf}
-use Rattle.policy.specs.Whole.{incomplete, codeUnreadable, flowMissing}
+use Rattle.policy.specs.Whole.{incomplete, codeUnreadable, flowMissing, strayFlow}
 use Rattle.bytes.specs.Numbers.{half, word, withHalf, withWord}
 use Rattle.machine.specs.Bytes.{little, digits}
 use Rattle.machine.specs.Decode.{operandFits, operandsFit, instructionOf, decodeOf, fetched}
@@ -26,5 +26,5 @@ use Rattle.calls.specs.Start.{startOutcome, cleared, afterStart, startAnswer}
 use Rattle.cases.specs.Cases.{allHold, cases, holds}
 
 pub claim : T (allHold cases)
-unfolding holds same cut segmentLine partitionLine rightLine flowLine slotLine wordOf lineBy linesOfPieces linesBy allDigits isNumber valueFrom decimal beginsHex hexadecimal number letters someBelow eachBelow clashes added outOfOrder outOfRange lineRefusal wholeRefusal readLines readBy goodSegment goodPartition goodSlot goodRight goodFlow allZero isShaped countsFit unusedZero allUnder masksFit linesHold soundOf incomplete codeUnreadable flowMissing half word withHalf withWord operandFits operandsFit instructionOf decodeOf fetched faults advanced resulted jumps waits comesBack actsOn takesInterrupt entered interrupted isReady next isPlace moved reaches inSegment little digits looks loads storesBytes executes obeys steps effect tickOf runOutcome afterTicks afterRun runAnswer startOutcome cleared afterStart startAnswer trailingZeros
+unfolding holds same cut segmentLine partitionLine rightLine flowLine slotLine wordOf lineBy linesOfPieces linesBy allDigits isNumber valueFrom decimal beginsHex hexadecimal number letters someBelow eachBelow clashes added outOfOrder outOfRange lineRefusal wholeRefusal readLinesBy readBy goodSegment goodPartition goodSlot goodRight goodFlow allZero isShaped countsFit unusedZero allUnder masksFit linesHold soundOf incomplete codeUnreadable flowMissing strayFlow half word withHalf withWord operandFits operandsFit instructionOf decodeOf fetched faults advanced resulted jumps waits comesBack actsOn takesInterrupt entered interrupted isReady next isPlace moved reaches inSegment little digits looks loads storesBytes executes obeys steps effect tickOf runOutcome afterTicks afterRun runAnswer startOutcome cleared afterStart startAnswer trailingZeros
 claim = tt

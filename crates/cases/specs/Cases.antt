@@ -1,5 +1,5 @@
 -- 01: "K1 to K10 are shown to hold of the definitions by one shared claim over a list of cases". The cases after these are 02's: S-2's
--- four bytes at once, and S-4's "Several texts may now give one record".
+-- four bytes at once, S-4's "Several texts may now give one record", and S-5's stray line.
 use Prim.Native.Nat.{ℕ, _+_, _-_}
 use mathlib.Core.Bool.{Bool, true, _&&_, not}
 use mathlib.Core.List.{List, [], _∷_, _++_}
@@ -133,4 +133,8 @@ cases =
     (bytes 64 (0 ∷ 1 ∷ 0 ∷ 0xc8 ∷ []) ∷ bytes 96 (4 ∷ 0 ∷ 0 ∷ 0 ∷ []) ∷ []) 0 1
     -- S-4: the demonstration head, and the same in hexadecimal
     ∷ alike (joined demonstration) (joined inHexadecimal)
+    -- S-5: with "flow 4 1" too, 16, line 0; without "flow 0 1" then 8; with "flow 4 0", into no save segment, accepted
+    ∷ reads (joined (set demonstration 15 (bytesOf "flow\t4\t1\nflow\t4\t3\n"))) 16 0
+    ∷ reads (joined (without 11 (set demonstration 15 (bytesOf "flow\t4\t1\nflow\t4\t3\n")))) 8 0
+    ∷ reads (joined (set demonstration 15 (bytesOf "flow\t4\t0\nflow\t4\t3\n"))) 0 0
     ∷ []

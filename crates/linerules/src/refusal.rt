@@ -16,6 +16,7 @@ pub fn is_accepted(refusal: Refusal) -> bool
         Refusal::Incomplete => false,
         Refusal::CodeUnreadable => false,
         Refusal::FlowMissing => false,
+        Refusal::StraySource => false,
     }
 }
 
@@ -33,6 +34,7 @@ pub fn number_of(refusal: Refusal) -> u32
         Refusal::Incomplete => 6,
         Refusal::CodeUnreadable => 7,
         Refusal::FlowMissing => 8,
+        Refusal::StraySource => 16,
     }
 }
 
@@ -50,5 +52,6 @@ pub fn line_number_of(refusal: Refusal) -> u32
         Refusal::Incomplete => 0,
         Refusal::CodeUnreadable => 0,
         Refusal::FlowMissing => 0,
+        Refusal::StraySource => 0,
     }
 }

@@ -9,21 +9,19 @@ use Rattle.text.specs.declared.line.Line.{Line}
 use Rattle.text.specs.declared.line.Line.the-variants.{Bad, Segment, Partition, Right, Flow, Slot}
 use Rattle.policy.specs.declared.record.Key.{Key}
 use Rattle.policy.specs.declared.record.Refusal.{Refusal}
-use Rattle.policy.specs.declared.record.Refusal.the-variants.{Accepted, TooLong, Malformed, OutOfOrder, OutOfRange, Clash}
+use Rattle.policy.specs.declared.record.Refusal.the-variants.{Accepted, TooLong}
 use Rattle.policy.specs.Limits.{Limits}
 use Rattle.policy.specs.View.{View}
-use Rattle.policy.specs.Order.{outOfOrder}
-use Rattle.policy.specs.Range.{outOfRange}
-use Rattle.policy.specs.Clash.{clashes}
 use Rattle.policy.specs.Tables.{Tables, zeros, viewOf}
 use Rattle.policy.specs.Draft.{Draft, added, begun, after}
 use Rattle.policy.specs.Refusals.{isAccepted}
-use Rattle.policy.specs.Read.{Answer, tooLong, isBad, lineRefusal, wholeRefusal, answer, readLines, readBy}
+use Rattle.policy.specs.Read.{Answer, tooLong, isBad, lineRules, lineRefusal, wholeRefusal, answer, readLines, readLinesBy, readBy}
 use Rattle.policy.specs.Sound.{Sound, soundOf}
 use Rattle.policy.specs.Lawful.{Lawful}
-use Rattle.policy.proofs.Laws.Whole.{passed}
+use Rattle.policy.specs.Dia.{SaveDia}
+use Rattle.policy.proofs.Laws.First.{none-applies}
 use Rattle.policy.proofs.Entries.{shaped-of, counts-of, unused-of, fit-of, good-of}
-use Rattle.policy.proofs.Lawful.{lawful}
+use Rattle.policy.proofs.Lawful.{lawful, save-dia}
 use Rattle.policy.proofs.Kept.{Kept, Passing, kept-none}
 use Rattle.policy.proofs.Kept.Segments.{kept-segment}
 use Rattle.policy.proofs.Kept.Partitions.{kept-partition}
@@ -41,14 +39,8 @@ module _ (limits : Limits) where
       isAccepted (lineRefusal limits n before v line) ≡ true → Fine limits v before line
   unfolding lineRefusal
   fine n before v line h =
-      let fourth = cond (clashes v line) (Clash n) Accepted in
-      let third = cond (outOfRange limits v line) (OutOfRange n) fourth in
-      let second = cond (outOfOrder before v line) (OutOfOrder n) third in
-      let p1 = passed (isBad line) (Malformed n) second refl h in
-      let p2 = passed (outOfOrder before v line) (OutOfOrder n) third refl (p1 .others) in
-      let p3 = passed (outOfRange limits v line) (OutOfRange n) fourth refl (p2 .others) in
-      let p4 = passed (clashes v line) (Clash n) Accepted refl (p3 .others) in
-      record { said = p1 .not-met; passing = record { ordered = p2 .not-met; ranged = p3 .not-met; clear = p4 .not-met } }
+      let none = none-applies (lineRules limits n before v line) refl h in
+      record { said = none .0; passing = record { ordered = none .1 .0; ranged = none .1 .1 .0; clear = none .1 .1 .1 .0 } }
 
   abbrev KeptDraft : Draft → Type 0
   KeptDraft d = Kept limits (d .tables) (d .before .kind)
@@ -93,7 +85,7 @@ module _ (limits : Limits) where
 
     lines-kept : (lines : List Line) (n : ℕ) (d : Draft) → KeptDraft d →
         Accepts (readLines limits n d lines) t → soundOf limits t ≡ true
-    unfolding readLines
+    unfolding readLinesBy
     lines-kept [] n d k e = last-kept (d .tables) (d .before .kind) k e
     lines-kept (line ∷ lines) n d k e = go (isAccepted refusal) refl e (λ k. lines-kept lines (n + 1) (after d line) k)
       where
@@ -122,3 +114,7 @@ module _ (limits : Limits) where
 
   pub sound-lawful : (t : Tables) → Sound limits t → Lawful limits (viewOf t)
   sound-lawful t s = lawful limits t (accepted t s)
+
+  -- "the sources of a save segment .. just what its partition may read"
+  pub sound-dia : (t : Tables) → Sound limits t → SaveDia (viewOf t)
+  sound-dia t s = save-dia limits (viewOf t) (sound-lawful t s)

@@ -1,5 +1,6 @@
 -- 02, S-4: "decimal texts give what they gave". A text in which no field begins with 0x is read as it was, and so is every
--- text that was not refused by 2: the new form makes lines good that were bad, and changes no other.
+-- text that was not refused by 2: the new form makes lines good that were bad, and changes no other. Whatever is asked of the
+-- whole.
 use Prim.Native.Nat.{ℕ, _+_}
 use mathlib.Core.Path.{_≡_, refl, sym, _∙_, ap}
 use mathlib.Core.Bool.{Bool, true, false, cond, true≢false}
@@ -18,12 +19,12 @@ use Rattle.policy.specs.View.{View}
 use Rattle.policy.specs.Tables.{Tables, zeros, viewOf}
 use Rattle.policy.specs.Draft.{Draft, begun, after}
 use Rattle.policy.specs.Refusals.{isAccepted, numberOf}
-use Rattle.policy.specs.Read.{Answer, tooLong, isBad, lineRefusal, answer, readLines, readBy}
+use Rattle.policy.specs.Read.{Answer, tooLong, isBad, lineRefusal, answer, readLinesBy, readBy}
 
-module _ (limits : Limits) where
+module _ (whole : View → Refusal) (limits : Limits) where
   -- Refusal, line and record.
   pub decimal-texts :
-      (text : List ℕ) → isDecimal text ≡ true → readBy decimal limits text ≡ readBy number limits text
+      (text : List ℕ) → isDecimal text ≡ true → readBy decimal whole limits text ≡ readBy number whole limits text
   unfolding readBy
   decimal-texts text e = rw (decimal-lines text e)
 
@@ -36,16 +37,16 @@ module _ (limits : Limits) where
   bad-refused n before v line e = rw e
 
   lines-answered :
-      (ls ms : List Line) → Both Kept ls ms → (n : ℕ) (d : Draft) → (RefusedBy2 (readLines limits n d ls) → ⊥)
-      → readLines limits n d ms ≡ readLines limits n d ls
-  unfolding readLines
+      (ls ms : List Line) → Both Kept ls ms → (n : ℕ) (d : Draft) → (RefusedBy2 (readLinesBy whole limits n d ls) → ⊥)
+      → readLinesBy whole limits n d ms ≡ readLinesBy whole limits n d ls
+  unfolding readLinesBy
   lines-answered [] [] h n d g = refl
   lines-answered [] (m ∷ ms) h n d g = absurd h
   lines-answered (l ∷ ls) [] h n d g = absurd h
   lines-answered (l ∷ ls) (m ∷ ms) h n d g = go (isBad l) refl (lines-answered ls ms (h .1) (n + 1) (after d l))
     where
       rest : List Line → Answer
-      rest lines = readLines limits (n + 1) (after d l) lines
+      rest lines = readLinesBy whole limits (n + 1) (after d l) lines
 
       refusal : Refusal
       refusal = lineRefusal limits n (d .before) (viewOf (d .tables)) l
@@ -61,20 +62,20 @@ module _ (limits : Limits) where
 
       go :
           (b : Bool) → isBad l ≡ b → ((RefusedBy2 (rest ls) → ⊥) → rest ms ≡ rest ls)
-          → readLines limits n d (m ∷ ms) ≡ readLines limits n d (l ∷ ls)
+          → readLinesBy whole limits n d (m ∷ ms) ≡ readLinesBy whole limits n d (l ∷ ls)
       go true e more = absurd (g (rw (bad-refused n (d .before) (viewOf (d .tables)) l e)))
       go false e more =
           let same : m ≡ l = h .0 (λ z. true≢false (sym (ap isBad z) ∙ e)) in
           rw same (through (isAccepted refusal) g more)
 
   pub answers-kept :
-      (text : List ℕ) → (RefusedBy2 (readBy decimal limits text) → ⊥)
-      → readBy number limits text ≡ readBy decimal limits text
+      (text : List ℕ) → (RefusedBy2 (readBy decimal whole limits text) → ⊥)
+      → readBy number whole limits text ≡ readBy decimal whole limits text
   unfolding readBy
   answers-kept text = go (tooLong limits text)
     where
       rest : List Line → Answer
-      rest lines = readLines limits 1 (begun limits) lines
+      rest lines = readLinesBy whole limits 1 (begun limits) lines
 
       long : Answer
       long = answer limits TooLong (zeros limits)
@@ -87,8 +88,8 @@ module _ (limits : Limits) where
 
   -- Every text that was accepted is accepted, with the same record.
   pub accepted-kept :
-      (text : List ℕ) (t : Tables) → readBy decimal limits text ≡ record { refusal = Accepted; tables = t }
-      → readBy number limits text ≡ record { refusal = Accepted; tables = t }
+      (text : List ℕ) (t : Tables) → readBy decimal whole limits text ≡ record { refusal = Accepted; tables = t }
+      → readBy number whole limits text ≡ record { refusal = Accepted; tables = t }
   accepted-kept text t e =
       answers-kept text
       (λ z. absurd (let q : _≡_ {A = ℕ} 0 2 = sym (ap (λ (r : Answer). numberOf (r .refusal)) e) ∙ z in omega arith))

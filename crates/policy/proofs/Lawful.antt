@@ -1,4 +1,4 @@
--- A record that passes the test has the laws of rules 4 to 8: each law is what one conjunct of the test says, taken of the later of two
+-- A record that passes the test has the laws of rules 4 to 8 and 16: each law is what one conjunct of the test says, taken of the later of two
 -- segments or partitions, which was tested against the earlier.
 use Prim.Native.Nat.{ℕ, _+_, _≤_, _<_}
 use mathlib.Core.Path.{_≡_, refl, sym, _∙_, ap}
@@ -6,17 +6,20 @@ use mathlib.Core.Bool.{true, false, _||_}
 use mathlib.Core.Logic.{_⊎_, inl, inr, ⊎-elim}
 use native.Mathlib.Omega.{arith}
 use native.Mathlib.Decide.{decLt}
+use borrow.Author.Tests.{eq-eqb}
 use Rattle.policy.specs.Limits.{Limits}
 use Rattle.policy.specs.View.{View}
+use Rattle.policy.specs.Access.{writable}
 use Rattle.policy.specs.Chain.{FlowLine}
 use Rattle.policy.specs.Tables.{Tables, viewOf}
 use Rattle.policy.specs.Refusals.{isAccepted}
 use Rattle.policy.specs.Read.{wholeRefusal}
 use Rattle.policy.specs.Sound.{soundOf}
 use Rattle.policy.specs.Lawful.{Lawful}
+use Rattle.policy.specs.Dia.{SaveDia}
 use Rattle.policy.proofs.Laws.Bools.{or-left, or-right}
 use Rattle.policy.proofs.Laws.Tests.{parts, segment-least, segment-most, segment-inside, segment-apart, partition-code, partition-save, partition-size, partition-parts, partition-own, partition-later, partition-earlier, slot-owner, slot-least, slot-most, right-on-save, flow-goes}
-use Rattle.policy.proofs.Laws.Whole.{whole-segments, whole-partitions, whole-slots, whole-reads, whole-flows}
+use Rattle.policy.proofs.Laws.Whole.{whole-segments, whole-partitions, whole-slots, whole-reads, whole-flows, whole-sources}
 use Rattle.policy.proofs.Entries.{Counts, Good, counts, good}
 
 module _ (limits : Limits) (v : View) (c : Counts limits v) (g : Good limits v) where
@@ -84,4 +87,14 @@ lawful limits t h =
       ticks-most = λ i l. slot-most limits v i (g .slot i l);
       flow-on = flow-on limits v c g;
       flow-asked = whole-flows v w;
+      save-sources = whole-sources v w;
     }
+
+-- 000's sentence: into a save segment a line goes from what its partition may read (16), and from all of that (8).
+pub save-dia : (limits : Limits) (v : View) → Lawful limits v → SaveDia v
+save-dia limits v h p s lp ls =
+    let t = h .save-there p lp in
+    let own : writable v p (v .save p) ≡ true = rw (eq-eqb (v .save p) (v .save p) refl) in (
+      λ f. (h .save-sources p s lp ls f, h .flow-on s (v .save p) (record { from = ls; to = t; stands = f })),
+      λ r. h .flow-asked p (v .save p) s lp t ls own (r .0) (r .1),
+    )

@@ -3,6 +3,7 @@ pub mod Below
 pub mod Exchange
 pub mod Loops
 pub mod Tests
+pub mod First
 pub mod Whole
 pub mod Same
 pub mod Stored

@@ -1,5 +1,5 @@
 -- Laws of the definitions, one subject a file; rule 8 by target; what a sound record gives; that an accepted text's record passes the test;
--- what decimal texts give.
+-- what decimal texts give; what rule 16 changes.
 pub mod Laws
 pub mod ByTarget
 pub mod Entries
@@ -7,3 +7,4 @@ pub mod Lawful
 pub mod Kept
 pub mod Accepted
 pub mod DecimalTexts
+pub mod Fewer

@@ -1,4 +1,4 @@
--- What a sound record gives whoever rests on it: the laws of rules 4 to 8, over its view. Nothing else of the reader is
+-- What a sound record gives whoever rests on it: the laws of rules 4 to 8 and 16, over its view. Nothing else of the reader is
 -- known above.
 use Prim.Native.Nat.{ℕ, _+_, _≤_, _<_}
 use mathlib.Core.Path.{_≡_}
@@ -37,7 +37,8 @@ pub record Lawful (limits : Limits) (v : View) : Type 0 where
   pub owner-there : (i : ℕ) → i < v .slots → v .owner i < v .partitions
   pub ticks-least : (i : ℕ) → i < v .slots → 1 ≤ v .ticks i
   pub ticks-most : (i : ℕ) → i < v .slots → v .ticks i ≤ mostTicks
-  -- flow lines: none from a segment to itself, and each that 8 asks for
+  -- flow lines: none from a segment to itself, each that 8 asks for, and into a save segment none but from R(p) (16)
   pub flow-on : (s t : ℕ) → FlowLine v s t → s ≡ t → ⊥
   pub flow-asked : (p t s : ℕ) → p < v .partitions → t < v .segments → s < v .segments →
       writable v p t ≡ true → readable v p s ≡ true → (s ≡ t → ⊥) → v .flow s t ≡ true
+  pub save-sources : (p s : ℕ) → p < v .partitions → s < v .segments → v .flow s (v .save p) ≡ true → readable v p s ≡ true

@@ -6,7 +6,7 @@ pub mod View
 pub mod Access
 pub mod Schedule
 pub mod Chain
--- The rules for a line, 3 to 5, and for the whole policy, 6 to 8; rule 8 by target.
+-- The rules for a line, 3 to 5, and for the whole policy, 6 to 8 and 16; rule 8 by target.
 pub mod Order
 pub mod Range
 pub mod Clash
@@ -20,6 +20,8 @@ pub mod First
 pub mod Refusals
 pub mod Read
 pub mod Record
--- Which records are sound, the test that decides it, and what it gives.
+-- Which records are sound, the test that decides it, what it gives, and what a save segment's sources are; what rule 16 changes.
 pub mod Sound
 pub mod Lawful
+pub mod Dia
+pub mod Fewer

@@ -3,7 +3,7 @@ use Prim.Native.Nat.{ℕ, _^_}
 use mathlib.Core.Path.{_≡_}
 use mathlib.Core.Bool.{Bool, true, _&&_, _||_, not}
 use mathlib.Core.List.{List, [], _∷_}
-use lib.ListN.{length, getD, drop}
+use lib.ListN.{length, drop}
 use lib.Dec.{eqb, leb, ltb}
 use Rattle.text.specs.declared.line.Line.{Line}
 use Rattle.text.specs.declared.line.Line.the-variants.{Segment, Partition, Right, Flow, Slot}
@@ -24,7 +24,7 @@ pub record Sound (limits : Limits) (tables : Tables) : Type 0 where
   pub gives : readOf limits text ≡ record { refusal = Accepted; tables = tables }
 
 -- The test that decides it: each entry stands where a line that rules 4 and 5 let pass, after those before it, would
--- put it, the unused entries are 0, and the whole passes 6, 7 and 8. That the two are the same is proved: `accepted`
+-- put it, the unused entries are 0, and the whole passes 6, 7, 8 and 16. That the two are the same is proved: `accepted`
 -- here, and `printed` in the crate printer.
 
 -- The policy with other counts.

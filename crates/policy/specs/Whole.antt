@@ -1,4 +1,4 @@
--- 01, refusals 6, 7 and 8: what is asked of the whole policy.
+-- 01, refusals 6, 7 and 8, and 02's 16: what is asked of the whole policy.
 use Prim.Native.Nat.{ℕ}
 use mathlib.Core.Bool.{Bool, _&&_, _||_, not}
 use lib.Dec.{eqb}
@@ -21,3 +21,14 @@ flowLacks v p t s = writable v p t && readable v p s && not (eqb s t) && not (v 
 unfoldable pub flowMissing : View → Bool
 flowMissing v =
     someBelow (v .partitions) (λ p. someBelow (v .segments) (λ t. someBelow (v .segments) (λ s. flowLacks v p t s)))
+
+-- 02, S-5: "a flow line into p's save segment must come from a segment of R(p)"
+abbrev pub mayEnter : View → ℕ → ℕ → Bool
+mayEnter v p s = readable v p s
+
+-- 16: "if a flow line into a save segment has another source": "flow s t" with t the save segment of p
+abbrev pub flowStrays : View → ℕ → ℕ → Bool
+flowStrays v p s = v .flow s (v .save p) && not (mayEnter v p s)
+
+unfoldable pub strayFlow : View → Bool
+strayFlow v = someBelow (v .partitions) (λ p. someBelow (v .segments) (λ s. flowStrays v p s))

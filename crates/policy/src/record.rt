@@ -40,6 +40,7 @@ pub enum Refusal {
     Incomplete,
     CodeUnreadable,
     FlowMissing,
+    StraySource,
 }
 
 // What reading a text answers; the record is that of zeros where the text is refused.

@@ -53,18 +53,18 @@ pub(crate) fn rights_good<'a>(
     bits_fit(reads, writes, partitions, there, saves)
 }
 
-// Whether no segment is its own source.
+// Whether no segment is its own source: the bit of each goes down to bit 0, where all are gathered.
 fn none_own(sources: &[u64], segments: u8) -> bool
     requires { ⌜ (segments ≤ 32) × (segments ≤ length (now sources)) ⌝ }
     ensures { λ r. ⌜ r ≡ eachBelow segments (λ t. not (has (getD (now (sources .entry)) t 0) t)) ⌝ }
 {
-    let mut own = false;
+    let mut own: u64 = 0;
     let mut t = 0;
     while t < segments {
-        own = own | has_bit(sources[t as usize], t as u32);
+        own = own | (sources[t as usize] >> t as u32);
         t += 1;
     }
-    !own
+    !has_bit(own, 0)
 }
 
 // A flow is one between two segments that are there.

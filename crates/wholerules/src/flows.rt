@@ -1,17 +1,23 @@
-// Rule 8 by target: the targets ascending, and the partitions inside that.
+// Rule 8 by target, the targets ascending and the partitions inside that; and rule 16.
 ghost use Prim.Native.Nat.{_≤_};
 ghost use mathlib.Core.Path.{_≡_};
 ghost use mathlib.Core.List.{[]};
 ghost use Rattle.policy.specs.ByTarget.{foundAfter};
-ghost use Rattle.policy.specs.Whole.{flowMissing};
+ghost use Rattle.policy.specs.Whole.{flowMissing, strayFlow};
 ghost use Rattle.wholerules.specs.Parts.{partsOf};
 use crate::masks::reach_all;
 use crate::masks::target_lacks;
 use bits::mask_at;
 use bits::worth;
 
+// Whether a line that rule 8 asks for is missing, and whether a line into a save segment has a stray source.
+pub(crate) struct Flows {
+    pub(crate) missing: bool,
+    pub(crate) stray: bool,
+}
+
 // Whether a line has been found missing after the first `targets` targets. The loop goes on after a finding, so that
-// there is an answer after each target.
+// there is an answer after each target. Rule 16 goes by partition and has its answer before the first target.
 pub(crate) fn missing_after<'a>(
     save: &'a [u8],
     reads: &'a [u64],
@@ -20,14 +26,14 @@ pub(crate) fn missing_after<'a>(
     segments: u8,
     partitions: u8,
     targets: u8,
-) -> bool
+) -> Flows
     requires { ⌜ (segments ≤ 64) × (partitions ≤ 12) × (targets ≤ segments) ⌝ }
     ensures { λ r.
         ⌜
-        r ≡ foundAfter
-        (partsOf segments partitions 0 [] (now (save .entry)) (now (reads .entry)) (now (writes .entry))
-        (now (sources .entry)))
-        targets
+        (let v =
+        partsOf segments partitions 0 [] (now (save .entry)) (now (reads .entry)) (now (writes .entry))
+        (now (sources .entry)) in
+        (r .missing ≡ foundAfter v targets) × (r .stray ≡ strayFlow v))
         ⌝ }
 {
     let mut reached: [u64; 12] = [0; 12];
@@ -36,6 +42,7 @@ pub(crate) fn missing_after<'a>(
         save,
         reads,
         writes,
+        sources,
         segments,
         partitions,
         &mut reached,
@@ -48,24 +55,28 @@ pub(crate) fn missing_after<'a>(
         found = found | target_lacks(&reached, &written, partitions, t, allowed, all);
         t += 1;
     }
-    found
+    Flows {
+        missing: found,
+        stray: all.stray,
+    }
 }
 
-// Rule 8: a line is missing if one has been found so after all targets.
-pub(crate) fn flow_missing<'a>(
+// Rule 8: a line is missing if one has been found so after all targets. Rule 16 beside it.
+pub(crate) fn look_at_flows<'a>(
     save: &'a [u8],
     reads: &'a [u64],
     writes: &'a [u64],
     sources: &'a [u64],
     segments: u8,
     partitions: u8,
-) -> bool
+) -> Flows
     requires { ⌜ (segments ≤ 64) × (partitions ≤ 12) ⌝ }
     ensures { λ r.
         ⌜
-        r ≡ flowMissing
-        (partsOf segments partitions 0 [] (now (save .entry)) (now (reads .entry)) (now (writes .entry))
-        (now (sources .entry)))
+        (let v =
+        partsOf segments partitions 0 [] (now (save .entry)) (now (reads .entry)) (now (writes .entry))
+        (now (sources .entry)) in
+        (r .missing ≡ flowMissing v) × (r .stray ≡ strayFlow v))
         ⌝ }
 {
     missing_after(save, reads, writes, sources, segments, partitions, segments)

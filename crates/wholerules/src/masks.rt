@@ -1,11 +1,14 @@
-// What partitions reach, and what rule 8 asks for, as masks of segments.
+// What partitions reach, and what rules 8 and 16 ask, as masks of segments.
 ghost use Prim.Native.Nat.{_≤_, _<_};
 ghost use mathlib.Core.Path.{_≡_};
 ghost use mathlib.Core.Bool.{cond, not};
+ghost use mathlib.Core.List.{[]};
 ghost use lib.Bits.{bitAnd};
 ghost use lib.Dec.{eqb};
 ghost use lib.ListN.{length};
+ghost use Rattle.policy.specs.Whole.{strayFlow};
 ghost use Rattle.wholerules.specs.Masks.{AreReached, askedInto, joined};
+ghost use Rattle.wholerules.specs.Parts.{partsOf};
 use bits::bit_of;
 use bits::bits_below;
 use bits::has_bit;
@@ -13,18 +16,21 @@ use bits::mask_at;
 use bits::within;
 use bytes::byte_at;
 
-// What some partition reaches by the read masks, and by the write masks.
+// What some partition reaches by the read masks, and by the write masks; and whether a save segment has a source that its
+// partition does not reach (rule 16).
 pub(crate) struct All {
     reached: u64,
     written: u64,
+    pub(crate) stray: bool,
 }
 
 // The segments that each partition reaches by the read masks and by the write masks: its masks with its save segment,
-// of those that are there.
+// of those that are there. What it reaches is held against the sources of its save segment, while it is at hand.
 pub(crate) fn reach_all<'a>(
     save: &'a [u8],
     reads: &'a [u64],
     writes: &'a [u64],
+    sources: &'a [u64],
     segments: u8,
     partitions: u8,
     reached: &mut [u64],
@@ -37,16 +43,23 @@ pub(crate) fn reach_all<'a>(
         × AreReached (now (save .entry)) (now (writes .entry)) segments partitions (now (written .exit))
         × (r .reached ≡ joined (now (reached .exit)) partitions)
         × (r .written ≡ joined (now (written .exit)) partitions)
+        × (r .stray ≡ strayFlow
+        (partsOf segments partitions 0 [] (now (save .entry)) (now (reads .entry)) (now (writes .entry))
+        (now (sources .entry))))
         ⌝ }
 {
     let there = bits_below(segments);
     let mut any_reached: u64 = 0;
     let mut any_written: u64 = 0;
+    let mut stray = false;
     let mut p = 0;
     while p < partitions {
-        let own = bit_of(byte_at(save, p as usize));
+        let s = byte_at(save, p as usize);
+        let own = bit_of(s);
         let reach = (own | mask_at(reads, p as usize)) & there;
         let write = (own | mask_at(writes, p as usize)) & there;
+        let into = mask_at(sources, s as usize) & there;
+        stray = stray | !within(into, reach);
         reached[p as usize] = reach;
         written[p as usize] = write;
         any_reached = any_reached | reach;
@@ -56,6 +69,7 @@ pub(crate) fn reach_all<'a>(
     All {
         reached: any_reached,
         written: any_written,
+        stray,
     }
 }
 

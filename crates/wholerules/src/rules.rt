@@ -1,4 +1,4 @@
-// Rules 6 and 7, and the three in their order, over lent arrays.
+// Rules 6 and 7, and the four in their order, over lent arrays.
 ghost use Prim.Native.Nat.{_≤_};
 ghost use mathlib.Core.Path.{_≡_};
 ghost use mathlib.Core.List.{[]};
@@ -6,7 +6,7 @@ ghost use lib.ListN.{length};
 ghost use Rattle.policy.specs.Read.{wholeRefusal};
 ghost use Rattle.policy.specs.Whole.{codeUnreadable};
 ghost use Rattle.wholerules.specs.Parts.{partsOf};
-use crate::flows::flow_missing;
+use crate::flows::look_at_flows;
 use bits::bit_at;
 use bits::mask_at;
 use bits::widen;
@@ -52,8 +52,12 @@ pub fn lent_refusal<'a>(
     if code_unreadable(code, reads, partitions) {
         return Refusal::CodeUnreadable;
     }
-    if flow_missing(save, reads, writes, sources, segments, partitions) {
+    let flows = look_at_flows(save, reads, writes, sources, segments, partitions);
+    if flows.missing {
         return Refusal::FlowMissing;
+    }
+    if flows.stray {
+        return Refusal::StraySource;
     }
     Refusal::Accepted
 }

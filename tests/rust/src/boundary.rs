@@ -69,7 +69,7 @@ impl Policy {
     }
 
     pub fn is_save(&self, segment: usize) -> bool {
-        (0..self.partitions as usize).any(|p| self.save[p] as usize == segment)
+        self.save.iter().take(self.partitions as usize).any(|&save| save as usize == segment)
     }
 
     /// The record's bytes as they stand in memory.

@@ -3,7 +3,7 @@
 use crate::boundary::{Kernel, Place, Policy, MEMORY};
 use crate::generate::lists::{Call, List, Step};
 use crate::reference::bytes::{self, Bytes};
-use crate::reference::{judge, print, read, run_watched, sound, Event, Reference, OPCODES};
+use crate::reference::{asked, judge, judge_without_16, print, read, run_watched, sound, Event, Reference, OPCODES};
 use std::collections::BTreeMap;
 
 /// How a kernel differs from the reference on a text, if it does.
@@ -28,6 +28,16 @@ pub fn record_difference(kernel: &dyn Kernel, policy: &Policy) -> Option<String>
 /// The definition itself, "some accepted text gives it": if any does, the one with decimal numbers does.
 pub fn text_gives(policy: &Policy) -> bool {
     print(policy).is_some_and(|text| judge(text.as_bytes()).is_ok_and(|lines| lines.record() == *policy))
+}
+
+/// The same by the rules before change request S-5.
+pub fn text_gave(policy: &Policy) -> bool {
+    print(policy).is_some_and(|text| judge_without_16(text.as_bytes()).is_ok_and(|lines| lines.record() == *policy))
+}
+
+/// A flow that rule 8 doesn't ask for.
+fn has_free_flow(policy: &Policy) -> bool {
+    (0..32).any(|to| (0..32).any(|from| policy.flow(from, to) && !asked(policy, from, to)))
 }
 
 /// The record of bytes that stands for the same is sound; a record whose unused byte is not 0 stands for none.
@@ -114,11 +124,16 @@ impl Reached {
 
     pub fn text(&mut self, text: &[u8]) {
         match judge(text) {
-            Ok(_) => self.count(&format!("accepted, {}", forms(text))),
+            Ok(lines) => {
+                self.count(&format!("accepted, {}", forms(text)));
+                if has_free_flow(&lines.record()) {
+                    self.count("accepted with a flow more");
+                }
+            }
             Err(refusal) => {
                 self.count(refusal.why);
-                if let Some(also) = refusal.also {
-                    self.count(&format!("{} and {} on one line", &refusal.why[..1], &also[..1]));
+                for later in refusal.also {
+                    self.count(&format!("{} and {later} {}", refusal.number, if refusal.line > 0 { "on one line" } else { "in one text" }));
                 }
                 if let 3..=5 = refusal.number {
                     let line = text.split(|&byte| byte == b'\n').nth(refusal.line as usize - 1).unwrap_or_default();
@@ -129,7 +144,12 @@ impl Reached {
     }
 
     pub fn record(&mut self, policy: &Policy) {
-        self.count(if sound(policy) { "sound" } else { "not sound" });
+        self.count(match () {
+            _ if sound(policy) && has_free_flow(policy) => "sound with a flow more",
+            _ if sound(policy) => "sound",
+            _ if text_gave(policy) => "not sound by 16",
+            _ => "not sound",
+        });
     }
 
     pub fn list(&mut self, list: &List) {
@@ -153,7 +173,8 @@ impl Reached {
                     (if call == Call::Start { "Start" } else { "Pend" }, answer.number)
                 }
             };
-            self.count(&format!("{name} {number}"));
+            let by_16 = if number == 10 && text_gave(policy) { " by 16" } else { "" };
+            self.count(&format!("{name} {number}{by_16}"));
             if step.length != MEMORY && step.second {
                 self.count("9 before 10");
             }
@@ -184,10 +205,11 @@ const NAMES: [&str; OPCODES as usize] =
     ["halt", "set", "add", "sub", "and", "xor", "shift", "load", "store", "jump", "wait", "listen", "back", "load word", "store word"];
 
 /// Every reason of a refused text, and every outcome of a record.
-pub const TEXT_CASES: [&str; 63] = [
+pub const TEXT_CASES: [&str; 76] = [
     "accepted, in decimal",
     "accepted, in both forms",
     "accepted, in hexadecimal",
+    "accepted with a flow more",
     "1 over 16,384 bytes",
     "2 no line end",
     "2 unknown word",
@@ -235,9 +257,18 @@ pub const TEXT_CASES: [&str; 63] = [
     "6 no slot",
     "7 no r on the code segment",
     "8 flow missing",
+    "16 for a partition without a slot",
+    "16 from another's code segment",
+    "16 from another's save segment",
+    "16 from a segment with w alone",
+    "16 from a segment that another reads",
+    "16 from a segment that nobody reads",
     "3 and 4 on one line",
     "3 and 5 on one line",
     "4 and 5 on one line",
+    "6 and 16 in one text",
+    "7 and 16 in one text",
+    "8 and 16 in one text",
     "3 on a line in decimal",
     "3 on a line in both forms",
     "3 on a line in hexadecimal",
@@ -248,21 +279,27 @@ pub const TEXT_CASES: [&str; 63] = [
     "5 on a line in both forms",
     "5 on a line in hexadecimal",
     "sound",
+    "sound with a flow more",
+    "not sound",
+    "not sound by 16",
 ];
 
 /// Every outcome of a call and of a tick.
-pub const LIST_CASES: [&str; 69] = [
+pub const LIST_CASES: [&str; 72] = [
     "Start 0",
     "Start 9",
     "Start 10",
+    "Start 10 by 16",
     "Pend 0",
     "Pend 9",
     "Pend 10",
+    "Pend 10 by 16",
     "Pend 11",
     "Pend 12",
     "Run 0",
     "Run 9",
     "Run 10",
+    "Run 10 by 16",
     "Run 13",
     "Run 14",
     "Run of 0 ticks",

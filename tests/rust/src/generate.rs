@@ -1,5 +1,6 @@
 //! Random policies, texts, records, programs, memories and call lists. The same seed gives the same ones.
 
+mod flows;
 pub mod lists;
 pub mod memories;
 pub mod mutations;

@@ -14,7 +14,7 @@ pub mod show;
 pub mod shrink;
 pub mod tuned;
 
-use boundary::Kernel;
+use boundary::{Kernel, Policy, ReadResult};
 
 /// The kernels that are held to the reference: the tuned one, and the proved one where it is linked.
 pub fn kernels() -> Vec<Box<dyn Kernel>> {
@@ -33,7 +33,17 @@ pub fn each(test: impl Fn(&dyn Kernel)) {
     }
 }
 
+/// What Read answers on a text that is refused.
+pub fn refused(number: u32, line: u32) -> ReadResult {
+    ReadResult { number, line, policy: Policy::ZERO }
+}
+
+/// What Read answers on a text that gives this record.
+pub fn accepted(policy: Policy) -> ReadResult {
+    ReadResult { number: 0, line: 0, policy }
+}
+
 /// The demonstration policy's record.
-pub fn demonstration() -> boundary::Policy {
+pub fn demonstration() -> Policy {
     reference::Reference.read(generate::policies::DEMONSTRATION.as_bytes()).policy
 }

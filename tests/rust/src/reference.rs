@@ -11,8 +11,8 @@ mod report;
 
 pub use calls::{pend, run, run_watched, start};
 pub use machine::{next_place, tick, Event, COUNTER, ENABLED, FAULT, HANDLER, IN_HANDLER, OPCODES, PENDED, RETURN, SAVE, STATE, UNUSED};
-pub use reader::{judge, read, Refusal};
-pub use record::{print, readable, sound, sources, writable, Lines};
+pub use reader::{judge, judge_without_16, read, Refusal};
+pub use record::{asked, print, readable, sound, sources, writable, Lines};
 pub use report::report;
 
 use crate::boundary::{Kernel, Place, Policy, ReadResult, RunResult};

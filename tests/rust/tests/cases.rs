@@ -8,12 +8,8 @@ use separation::generate::policies::{full_in_hexadecimal, longest, policy, Shape
 use separation::generate::texts::{hexadecimal_text_of, text, text_of};
 use separation::random::Random;
 use separation::reference::{report, SAVE};
-use separation::{demonstration, each, kernels, show};
+use separation::{accepted, demonstration, each, kernels, refused, show};
 use std::mem::offset_of;
-
-fn refused(number: u32, line: u32) -> ReadResult {
-    ReadResult { number, line, policy: Policy::ZERO }
-}
 
 /// Start, some bytes put into memory, ticks; the memory and the result.
 fn after(kernel: &dyn Kernel, put: &[(usize, &[u8])], ticks: u32) -> (Vec<u8>, RunResult) {
@@ -144,7 +140,7 @@ fn limits_of_the_calls() {
 fn limits_of_the_text() {
     each(|kernel| {
         let longest = text_of(&longest());
-        assert_eq!(longest.len(), 14_143);
+        assert_eq!(longest.len(), 13_639);
         assert_eq!(kernel.read(&longest).number, 0);
         let mut text = vec![b'x'; 16_384];
         assert_eq!(kernel.read(&text), refused(2, 1));
@@ -169,10 +165,6 @@ fn one_more_line_than_there_is_room_for() {
         let lines = text.lines().count() as u32;
         assert_eq!(kernel.read(format!("{text}slot\t0\t1\n").as_bytes()), refused(4, lines + 1));
     });
-}
-
-fn accepted(policy: Policy) -> ReadResult {
-    ReadResult { number: 0, line: 0, policy }
 }
 
 /// Values at the edges of the hexadecimal form, as a base, a length and ticks, and how a line with them is judged.
@@ -276,9 +268,10 @@ fn a_records_texts_give_the_record() {
 fn refusal_1_counts_bytes() {
     let record = full_in_hexadecimal();
     let text = hexadecimal_text_of(&record);
-    assert_eq!((text.len(), text_of(&record).len()), (16_384, 12_293));
+    assert_eq!((text.len(), text_of(&record).len()), (16_384, 12_391));
     let mut longer = record;
-    longer.set_right(7, 31, 3);
+    longer.set_right(7, 22, 3);
+    assert_eq!(hexadecimal_text_of(&longer).len(), 16_385);
     each(|kernel| {
         assert_eq!(kernel.read(&text), accepted(record));
         assert_eq!(kernel.read(&text_of(&record)), accepted(record));

@@ -1,17 +1,18 @@
 //! The tests' own tools: what they generate is what they say, differences are found and made short, and leaky kernels are caught.
 
 use separation::boundary::{Kernel, Place, Policy, ReadResult, RunResult, MEMORY};
-use separation::compare::{list_difference, text_difference, text_gives};
+use separation::compare::{list_difference, record_difference, text_difference, text_gave, text_gives};
 use separation::generate::lists::{list, Call};
 use separation::generate::mutations::split;
 use separation::generate::numbers::worth;
 use separation::generate::policies::{longest, policy, Shape};
+use separation::generate::records::perturb;
 use separation::generate::texts::text;
 use separation::leaky::{Leaky, LEAKS};
 use separation::pairs::{bytes_of, check, explain, run_pair, tick_pair};
 use separation::random::Random;
-use separation::reference::{self, sound, sources, tick, Event, Reference, COUNTER, ENABLED};
-use separation::{show, shrink};
+use separation::reference::{self, judge, judge_without_16, readable, sound, sources, tick, writable, Event, Reference, COUNTER, ENABLED};
+use separation::{accepted, refused, show, shrink};
 
 #[test]
 fn generated_policies_are_sound() {
@@ -33,7 +34,8 @@ impl Kernel for Wrong {
     }
     fn read(&self, text: &[u8]) -> ReadResult {
         let mut answer = reference::read(text);
-        if answer.number == 4 && text.windows(6).any(|bytes| bytes == b"\t4097\n") {
+        let line = text.split(|&byte| byte == b'\n').nth(answer.line.max(1) as usize - 1).unwrap_or_default();
+        if answer.number == 4 && line.starts_with(b"segment") && line.ends_with(b"\t4097") {
             answer.number = 5;
         }
         answer
@@ -80,12 +82,102 @@ fn a_wrong_run_is_found_and_the_list_is_made_short() {
     assert!(short.memory[..MEMORY].iter().filter(|&&byte| byte != 0).count() < 40, "{}", show::list(&short));
 }
 
+/// Wrong about change request S-5, one way each.
+#[derive(Clone, Copy, PartialEq, Eq, Debug)]
+enum Sources {
+    /// As before it.
+    Any,
+    /// W(p) for R(p).
+    Written,
+    ReadOrWritten,
+    ReadBySome,
+    /// Partitions without a slot are left out.
+    WithoutSlotAny,
+    /// A segment of 44 bytes is taken for a save segment.
+    ByLength,
+    /// 16 before 8.
+    BeforeEight,
+}
+
+const WRONG_SOURCES: [Sources; 7] =
+    [Sources::Any, Sources::Written, Sources::ReadOrWritten, Sources::ReadBySome, Sources::WithoutSlotAny, Sources::ByLength, Sources::BeforeEight];
+
+impl Sources {
+    fn allows(self, policy: &Policy, p: usize, s: usize) -> bool {
+        match self {
+            Sources::Any => true,
+            Sources::Written => writable(policy, p, s),
+            Sources::ReadOrWritten => readable(policy, p, s) || writable(policy, p, s),
+            Sources::ReadBySome => (0..policy.partitions as usize).any(|q| readable(policy, q, s)),
+            Sources::WithoutSlotAny if !policy.slot_partition[..policy.slots as usize].contains(&(p as u8)) => true,
+            _ => readable(policy, p, s),
+        }
+    }
+
+    fn stray(self, policy: &Policy) -> bool {
+        let stray = |p: usize| (0..32).any(|s| policy.flow(s, policy.save[p] as usize) && !self.allows(policy, p, s));
+        let taken = |t: usize| self == Sources::ByLength && policy.size[t] == 44 && !policy.is_save(t) && policy.sources[t] != 0;
+        (0..policy.partitions as usize).any(stray) || (0..32).any(taken)
+    }
+
+    /// What a call answers that the reference would answer otherwise.
+    fn otherwise(self, policy: &Policy, memory: &[u8]) -> Option<u32> {
+        let is_sound = self.sound(policy) == 1;
+        (memory.len() == MEMORY && is_sound != sound(policy)).then_some(if is_sound { 0 } else { 10 })
+    }
+}
+
+impl Kernel for Sources {
+    fn name(&self) -> &'static str {
+        "wrong sources"
+    }
+    fn read(&self, text: &[u8]) -> ReadResult {
+        match (judge(text), judge_without_16(text)) {
+            (Err(refusal), _) if *self == Sources::BeforeEight && refusal.also.contains(&16) => refused(16, 0),
+            (_, Err(refusal)) => refused(refusal.number, refusal.line),
+            (_, Ok(lines)) if self.stray(&lines.record()) => refused(16, 0),
+            (_, Ok(lines)) => accepted(lines.record()),
+        }
+    }
+    fn sound(&self, policy: &Policy) -> u32 {
+        (text_gave(policy) && !self.stray(policy)) as u32
+    }
+    fn start(&self, policy: &Policy, memory: &mut [u8]) -> RunResult {
+        let otherwise = self.otherwise(policy, memory).map(|number| RunResult { number, place: Place::FIRST });
+        otherwise.unwrap_or_else(|| reference::start(policy, memory))
+    }
+    fn pend(&self, policy: &Policy, memory: &mut [u8], partition: u32, line: u32) -> u32 {
+        self.otherwise(policy, memory).unwrap_or_else(|| reference::pend(policy, memory, partition, line))
+    }
+    fn run(&self, policy: &Policy, memory: &mut [u8], place: Place, ticks: u32) -> RunResult {
+        let otherwise = self.otherwise(policy, memory).map(|number| RunResult { number, place });
+        otherwise.unwrap_or_else(|| reference::run(policy, memory, place, ticks))
+    }
+}
+
+/// By texts, by records and by lists of calls; the order of refusals shows in texts alone.
+#[test]
+fn wrong_sources_are_found() {
+    for wrong in WRONG_SOURCES {
+        let mut random = Random::new(17);
+        assert!((0..20_000).any(|_| text_difference(&wrong, &text(&mut random)).is_some()), "{wrong:?} by texts");
+        let by_records = (0..20_000).any(|_| {
+            let shape = Shape::any(&mut random);
+            let mut record = policy(&mut random, shape);
+            perturb(&mut random, &mut record);
+            record_difference(&wrong, &record).is_some()
+        });
+        let by_lists = (0..20_000).any(|_| list_difference(&wrong, &list(&mut random)).is_some());
+        assert_eq!((by_records, by_lists), [(true, true), (false, false)][(wrong == Sources::BeforeEight) as usize], "{wrong:?}");
+    }
+}
+
 /// Words are loaded and stored at both ends of segments, between them aligned and not, in segments of four and five bytes, and in the code that runs.
 #[test]
 fn generated_programs_move_words() {
     let mut random = Random::new(16);
     let mut seen = [[0; 7]; 2];
-    for _ in 0..2_000 {
+    for _ in 0..4_000 {
         let list = list(&mut random);
         let (policy, mut memory, mut place) = (list.policies[0], list.memory, Place::FIRST);
         for _ in 0..200 {

@@ -40,6 +40,7 @@ fn a_line_sets_its_bits() {
     let mut policy = longest();
     for p in 0..8 {
         (policy.reads[p], policy.writes[p]) = (1 << policy.code[p], 0);
+        policy.sources[policy.save[p] as usize] = policy.reads[p];
     }
     let text = String::from_utf8(text_of(&policy)).unwrap();
     each(|kernel| {
@@ -50,7 +51,13 @@ fn a_line_sets_its_bits() {
                 wanted.set_right(7, s, right);
                 let line = format!("right\t7\t{s}\t{letters}\n");
                 let (before, after) = if s < 17 { (line, String::new()) } else { (String::new(), line) };
-                let more = text.replacen("right\t7\t17\tr\n", &format!("{before}right\t7\t17\tr\n{after}"), 1);
+                let mut more = text.replacen("right\t7\t17\tr\n", &format!("{before}right\t7\t17\tr\n{after}"), 1);
+                if right & 1 == 1 {
+                    // What it may read goes into its save segment.
+                    wanted.set_flow(s, 7, true);
+                    let behind = format!("flow\t{s}\t{}\n", if s == 8 { 9 } else { 8 });
+                    more = more.replacen(&behind, &format!("flow\t{s}\t7\n{behind}"), 1);
+                }
                 assert_eq!(kernel.read(more.as_bytes()).policy, wanted);
             }
         }

@@ -29,7 +29,7 @@ use Rattle.policy.specs.Range.{outOfRange}
 use Rattle.policy.specs.Refusals.{isAccepted}
 use Rattle.policy.specs.Tables.{Tables, zeros, viewOf}
 use Rattle.policy.specs.Draft.{Draft, added, begun, noLine}
-use Rattle.policy.specs.Read.{isBad, Answer, answer, tooLong, lineRefusal, wholeRefusal, readLines, readBy}
+use Rattle.policy.specs.Read.{isBad, Answer, answer, tooLong, lineRefusal, wholeRefusal, readLines, readLinesBy, readBy}
 use Rattle.alike.specs.Alike.{SameAnswer, SameText}
 use Rattle.alike.specs.Bytes.{Bytes, pairAt, zeroBytes, addedBytes, BytesAnswer, answerBytes, readBytesFrom, readBytes, AreBytes, StandsFor}
 use Rattle.policy.proofs.Laws.Bits.{bit-where}
@@ -262,7 +262,7 @@ draft t key = record { tables = t; before = key }
 
 lines-same : (lines : List Line) (n : ℕ) (b : Bytes) (t : Tables) (before : Key) → AllLettered lines → Both b t before →
     SameAnswer (readBytesFrom n before b lines) (readLines single n (draft t before) lines)
-unfolding readBytesFrom readLines
+unfolding readBytesFrom readLinesBy
 lines-same [] n b t before few h = rw (views-same b t (h .stands)) (answers-same b t before h (wholeRefusal (viewOf t)))
 lines-same (line ∷ lines) n b t before few h =
     rw (views-same b t (h .stands))

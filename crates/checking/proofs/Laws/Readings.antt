@@ -1,8 +1,8 @@
 -- What every answer of reading a text has: a refusal names a line of the text, or none, and comes with the record of zeros; an accepted record is
 -- sound. By induction on the lines.
 use Prim.Native.Nat.{ℕ, suc, _+_, _≤_}
-use mathlib.Core.Path.{_≡_, refl, sym, ap}
-use mathlib.Core.Bool.{Bool, true, false, cond, true≢false}
+use mathlib.Core.Path.{_≡_, refl, ap}
+use mathlib.Core.Bool.{Bool, true, false, cond}
 use mathlib.Core.List.{List, [], _∷_}
 use native.Mathlib.Omega.{arith}
 use borrow.Author.Tests.{ltb-false}
@@ -14,19 +14,16 @@ use Rattle.text.specs.Number.{number}
 use Rattle.text.specs.declared.line.Line.{Line}
 use Rattle.policy.specs.declared.record.Key.{Key}
 use Rattle.policy.specs.declared.record.Refusal.{Refusal}
-use Rattle.policy.specs.declared.record.Refusal.the-variants.{Accepted, TooLong, Malformed, OutOfOrder, OutOfRange, Clash, Incomplete, CodeUnreadable, FlowMissing}
+use Rattle.policy.specs.declared.record.Refusal.the-variants.{TooLong}
 use Rattle.policy.specs.Limits.{Limits, single}
 use Rattle.policy.specs.View.{View}
-use Rattle.policy.specs.Order.{outOfOrder}
-use Rattle.policy.specs.Range.{outOfRange}
-use Rattle.policy.specs.Clash.{clashes}
-use Rattle.policy.specs.Whole.{incomplete, codeUnreadable, flowMissing}
 use Rattle.policy.specs.Tables.{zeros, viewOf}
 use Rattle.policy.specs.Draft.{Draft, begun, after}
 use Rattle.policy.specs.Refusals.{isAccepted, lineNumberOf}
-use Rattle.policy.specs.Read.{isBad, tooLong, lineRefusal, wholeRefusal, Answer, answer, readLines, readBy, readOf}
+use Rattle.policy.specs.Read.{tooLong, lineRules, lineRefusal, wholeRules, wholeRefusal, Answer, answer, readLines, readLinesBy, readBy, readOf}
 use Rattle.policy.specs.Sound.{Sound}
 use Rattle.policy.proofs.Accepted.{sound-lawful}
+use Rattle.policy.proofs.Laws.First.{first-has, is-accepted}
 use Rattle.report.specs.Reportable.{Countable, Reportable}
 
 -- How many lines a text has.
@@ -54,35 +51,13 @@ lines-length text = omega (arith, pieces-length (cut lineEnd text), cut-length t
 -- What a refusal may name.
 whole-line : (v : View) → lineNumberOf (wholeRefusal v) ≡ 0
 unfolding wholeRefusal
-whole-line v = go (incomplete v) (codeUnreadable v) (flowMissing v)
-  where
-    go : (a b c : Bool) → lineNumberOf (cond a Incomplete (cond b CodeUnreadable (cond c FlowMissing Accepted))) ≡ 0
-    go true b c = refl
-    go false true c = refl
-    go false false true = refl
-    go false false false = refl
+whole-line v = first-has (λ r. lineNumberOf r ≡ 0) (wholeRules v) refl (refl, (refl, (refl, (refl, tt))))
 
 line-line : (limits : Limits) (n : ℕ) (before : Key) (v : View) (line : Line) → lineNumberOf (lineRefusal limits n before v line) ≤ n
 unfolding lineRefusal
-line-line limits n before v line = go (isBad line) (outOfOrder before v line) (outOfRange limits v line) (clashes v line)
-  where
-    go : (a b c e : Bool) → lineNumberOf (cond a (Malformed n) (cond b (OutOfOrder n) (cond c (OutOfRange n) (cond e (Clash n) Accepted)))) ≤ n
-    go true b c e = omega arith
-    go false true c e = omega arith
-    go false false true e = omega arith
-    go false false false true = omega arith
-    go false false false false = omega arith
-
-is-accepted : (r : Refusal) → isAccepted r ≡ true → r ≡ Accepted
-is-accepted Accepted h = refl
-is-accepted TooLong h = absurd (true≢false (sym h))
-is-accepted (Malformed n) h = absurd (true≢false (sym h))
-is-accepted (OutOfOrder n) h = absurd (true≢false (sym h))
-is-accepted (OutOfRange n) h = absurd (true≢false (sym h))
-is-accepted (Clash n) h = absurd (true≢false (sym h))
-is-accepted Incomplete h = absurd (true≢false (sym h))
-is-accepted CodeUnreadable h = absurd (true≢false (sym h))
-is-accepted FlowMissing h = absurd (true≢false (sym h))
+line-line limits n before v line =
+    first-has (λ r. lineNumberOf r ≤ n) (lineRules limits n before v line) (omega arith)
+    (omega arith, (omega arith, (omega arith, (omega arith, tt))))
 
 -- What holds of an answer: the number of a line that it may name, and the record of a refusal.
 record Answered (limits : Limits) (most : ℕ) (a : Answer) : Type 0 where
@@ -92,7 +67,7 @@ record Answered (limits : Limits) (most : ℕ) (a : Answer) : Type 0 where
 module _ (limits : Limits) where
   -- after the lines from the n-th on
   answered : (lines : List Line) (n : ℕ) (d : Draft) → Answered limits (n + length lines) (readLines limits n d lines)
-  unfolding readLines
+  unfolding readLinesBy
   answered [] n d =
       record {
         named = rw (whole-line (viewOf (d .tables))) (omega arith);

@@ -1,6 +1,6 @@
 -- Tests of the numbers below a bound, one number more at a time, and at each number: by induction on the bound.
-use Prim.Native.Nat.{ℕ, zero, suc, _+_, _*_, _<_, _≤_}
-use mathlib.Core.Path.{_≡_, refl, sym, _∙_, ap}
+use Prim.Native.Nat.{ℕ, zero, suc, _+_, _*_, _<_}
+use mathlib.Core.Path.{_≡_, refl, sym}
 use mathlib.Core.Bool.{Bool, true, false, _&&_, _||_, and-true, and-false, and-assoc, or-true, true≢false}
 use native.Mathlib.Nat.{add-zero, add-suc, mul-zero, mul-suc}
 use native.Mathlib.Numerals.{add-one}
@@ -19,6 +19,11 @@ module _ (f : ℕ → Bool) where
   pub some-more : (i : ℕ) → someBelow i f ≡ false → f i ≡ false → someBelow (i + 1) f ≡ false
   unfolding someBelow
   some-more i h e = rw (add-one, h, e)
+
+  -- gathered by or, with no stop at the first
+  pub some-next : (i : ℕ) (found more : Bool) → found ≡ someBelow i f → more ≡ f i → found || more ≡ someBelow (i + 1) f
+  unfolding someBelow
+  some-next i found more h e = rw (add-one, h, e)
 
   pub each-more : (i : ℕ) → eachBelow i f ≡ true → f i ≡ true → eachBelow (i + 1) f ≡ true
   unfolding eachBelow

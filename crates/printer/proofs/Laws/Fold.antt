@@ -1,18 +1,16 @@
 -- Reading the lines of a record that passes, kind by kind, gives the record: each line is accepted at its stage and leads to the next.
 use Prim.Native.Nat.{ℕ, suc}
 use mathlib.Core.Path.{_≡_, refl, sym, _∙_, ap}
-use mathlib.Core.Bool.{true, false≢true}
 use mathlib.Core.List.{[], _++_, append-nil}
 use native.Mathlib.Omega.{arith}
 use Rattle.policy.specs.Limits.{Limits}
 use Rattle.policy.specs.View.{View}
 use Rattle.policy.specs.Tables.{Tables, zeros, viewOf}
 use Rattle.policy.specs.Draft.{begun, noLine}
-use Rattle.policy.specs.Refusals.{isAccepted}
-use Rattle.policy.specs.Read.{wholeRefusal, readLines}
+use Rattle.policy.specs.Read.{wholeRefusal, readLines, readLinesBy}
 use Rattle.policy.specs.declared.record.Key.{Key}
-use Rattle.policy.specs.declared.record.Refusal.{Refusal}
-use Rattle.policy.specs.declared.record.Refusal.the-variants.{Accepted, TooLong, Malformed, OutOfOrder, OutOfRange, Clash, Incomplete, CodeUnreadable, FlowMissing}
+use Rattle.policy.specs.declared.record.Refusal.the-variants.{Accepted}
+use Rattle.policy.proofs.Laws.First.{is-accepted}
 use Rattle.printer.specs.Printer.{segmentAt, partitionAt, rightAt, flowAt, slotAt, segmentLines, partitionLines, rightLines, flowLines, slotLines, linesOfRecord}
 use Rattle.printer.proofs.Laws.Passed.{Passed}
 use Rattle.printer.proofs.Laws.Fits.{pair-cases}
@@ -53,17 +51,6 @@ use Rattle.printer.proofs.Laws.Stage.{
   add-slot,
   slot-passes,
 }
-
-is-accepted : (refusal : Refusal) → isAccepted refusal ≡ true → refusal ≡ Accepted
-is-accepted Accepted h = refl
-is-accepted TooLong h = absurd (false≢true h)
-is-accepted (Malformed line) h = absurd (false≢true h)
-is-accepted (OutOfOrder line) h = absurd (false≢true h)
-is-accepted (OutOfRange line) h = absurd (false≢true h)
-is-accepted (Clash line) h = absurd (false≢true h)
-is-accepted Incomplete h = absurd (false≢true h)
-is-accepted CodeUnreadable h = absurd (false≢true h)
-is-accepted FlowMissing h = absurd (false≢true h)
 
 module _ (limits : Limits) (t : Tables) (h : Passed limits t) where
   abbrev v : View
@@ -148,9 +135,9 @@ module _ (limits : Limits) (t : Tables) (h : Passed limits t) where
       flows-read)
       slots-read
 
-  -- After the last line the record is whole, and passes 6, 7 and 8.
+  -- After the last line the record is whole, and passes the rules for the whole.
   end-read : (n : ℕ) (key : Key) → readLines limits n (draft t key) [] ≡ record { refusal = Accepted; tables = t }
-  unfolding readLines
+  unfolding readLinesBy
   end-read n key = rw (is-accepted (wholeRefusal v) (h .whole))
 
   pub lines-read : readLines limits 1 (begun limits) (linesOfRecord limits t) ≡ record { refusal = Accepted; tables = t }

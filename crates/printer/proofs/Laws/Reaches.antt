@@ -9,7 +9,7 @@ use Rattle.policy.specs.Limits.{Limits}
 use Rattle.policy.specs.Order.{outOfOrder, keyOf}
 use Rattle.policy.specs.Tables.{Tables, viewOf}
 use Rattle.policy.specs.Draft.{Draft, added}
-use Rattle.policy.specs.Read.{Answer, isBad, lineRefusal, readLines}
+use Rattle.policy.specs.Read.{Answer, isBad, lineRefusal, readLines, readLinesBy}
 use Rattle.policy.specs.Sound.{passes}
 use Rattle.policy.specs.declared.record.Key.{Key}
 use Rattle.policy.specs.declared.record.Refusal.the-variants.{Accepted}
@@ -40,7 +40,7 @@ module _ (limits : Limits) where
   pub reaches-one : (p q : Tables) (K L : Key → Type 0) (line : Line) → isBad line ≡ false →
       ((key : Key) → K key → outOfOrder key (viewOf p) line ≡ false) → passes limits (viewOf p) line ≡ true →
       added p line ≡ q → L (keyOf line) → Reaches p K (line ∷ []) q L
-  unfolding readLines
+  unfolding readLinesBy
   reaches-one p q K L line good ordered a e l ys r h n key c =
       rw (accepted n p key line good (ordered key c) a, e) (h (n + 1) (keyOf line) l)
 

@@ -1,5 +1,4 @@
--- The end of the text, as the code has it: the record stands where the rules for the whole are passed, and that of zeros where not. Those rules
--- ask nothing of a record but the parts that are lent.
+-- The end of the text, as the code has it: the record stands where the rules for the whole are passed, and that of zeros where not.
 use Prim.Native.Nat.{ℕ, _≤_}
 use mathlib.Core.Path.{_≡_, _∙_}
 use mathlib.Core.Bool.{true, false}
@@ -11,10 +10,10 @@ use Rattle.policy.specs.declared.record.Refusal.{Refusal}
 use Rattle.policy.specs.Limits.{single}
 use Rattle.policy.specs.Draft.{begun}
 use Rattle.policy.specs.Refusals.{isAccepted}
-use Rattle.policy.specs.Tables.{Tables, zeros, viewOf}
+use Rattle.policy.specs.Tables.{Tables, zeros}
 use Rattle.policy.specs.Read.{Answer, answer, wholeRefusal, readLines}
-use Rattle.policy.specs.Whole.{incomplete, codeUnreadable, flowMissing}
 use Rattle.wholerules.specs.Parts.{partsOf}
+use Rattle.wholerules.proofs.Laws.Parts.{parts-refusal}
 use Rattle.readlines.proofs.Laws.Run.{Reached, stops-end}
 
 abbrev reading : Refusal → Tables → Answer
@@ -27,12 +26,8 @@ module _ (text : List ℕ) (tables : Tables) (before : Key) (at n : ℕ) (r : Re
     ≡ wholeRefusal
     (partsOf (tables .segments .count) (tables .partitions .count) (tables .slots .count) (tables .partitions .code)
     (tables .partitions .save) (tables .rights .reads) (tables .rights .writes) (tables .flows .sources))) where
-  same-refusal : refusal ≡ wholeRefusal (viewOf tables)
-  unfolding wholeRefusal incomplete codeUnreadable flowMissing
-  same-refusal = is-refusal
-
   answered : answer single refusal tables ≡ readLines single 1 (begun single) (linesOf text)
-  answered = rw same-refusal (stops-end text tables before at n r end)
+  answered = rw (is-refusal, parts-refusal tables) (stops-end text tables before at n r end)
 
   record-stands : isAccepted refusal ≡ true → reading refusal tables ≡ answer single refusal tables
   record-stands h = rw h

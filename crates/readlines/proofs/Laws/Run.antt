@@ -18,7 +18,7 @@ use Rattle.policy.specs.Order.{keyOf}
 use Rattle.policy.specs.Tables.{Tables, zeros, viewOf}
 use Rattle.policy.specs.Draft.{Draft, added, begun, noLine}
 use Rattle.policy.specs.Refusals.{isAccepted}
-use Rattle.policy.specs.Read.{lineRefusal, wholeRefusal, answer, readLines}
+use Rattle.policy.specs.Read.{lineRefusal, wholeRefusal, answer, readLines, readLinesBy}
 use Rattle.policy.proofs.Kept.{Kept, kept-none}
 use Rattle.policy.proofs.Accepted.{fine, kept-after}
 use Rattle.text.specs.Readers.{lineAt, lineRead}
@@ -44,7 +44,7 @@ module _ (text : List ℕ) (tables : Tables) (before : Key) (at n : ℕ) (r : Re
 
   pub stops-refused : at < length text → isAccepted (lineRefusal single n before (viewOf tables) line) ≡ false →
       answer single (lineRefusal single n before (viewOf tables) line) (zeros single) ≡ readLines single 1 (begun single) (linesOf text)
-  unfolding readLines
+  unfolding readLinesBy
   stops-refused h f = sym (r .same ∙ rw (line-next text at h, f))
 
   -- a line that is not refused is not bad, so it has an end
@@ -54,7 +54,7 @@ module _ (text : List ℕ) (tables : Tables) (before : Key) (at n : ℕ) (r : Re
 
   pub reached-more : at < length text → isAccepted (lineRefusal single n before (viewOf tables) line) ≡ true →
       Reached text (added tables line) (keyOf line) (lineRead text at n .next .at) (lineRead text at n .next .line)
-  unfolding readLines
+  unfolding readLinesBy
   reached-more h f =
       let left = line-left text at n (r .within) (not-bad f) in
       rw (left .1)
@@ -69,5 +69,5 @@ module _ (text : List ℕ) (tables : Tables) (before : Key) (at n : ℕ) (r : Re
   moves-on f = rw (line-left text at n (r .within) (not-bad f) .1) (omega (arith, end-least lineEnd text at))
 
   pub stops-end : length text ≤ at → answer single (wholeRefusal (viewOf tables)) tables ≡ readLines single 1 (begun single) (linesOf text)
-  unfolding readLines
+  unfolding readLinesBy
   stops-end h = sym (r .same ∙ rw (lines-end text at h))

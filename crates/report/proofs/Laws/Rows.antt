@@ -9,7 +9,7 @@ use lib.Dec.{eqb}
 use lib.ListN.{length, length-append}
 use lib.Seq.{sets}
 use Rattle.policy.specs.declared.record.Refusal.{Refusal}
-use Rattle.policy.specs.declared.record.Refusal.the-variants.{Accepted, TooLong, Malformed, OutOfOrder, OutOfRange, Clash, Incomplete, CodeUnreadable, FlowMissing}
+use Rattle.policy.specs.declared.record.Refusal.the-variants.{Accepted, TooLong, Malformed, OutOfOrder, OutOfRange, Clash, Incomplete, CodeUnreadable, FlowMissing, StraySource}
 use Rattle.policy.specs.View.{View}
 use Rattle.policy.specs.Schedule.{roundTicks}
 use Rattle.policy.specs.Tables.{Tables, viewOf}
@@ -45,8 +45,8 @@ segment-length s reads writes a b d =
     (omega
     (arith, digits-width 1 s a, digits-width 2 reads (omega arith), digits-width 2 writes (omega arith)))
 
-pub refused-length : (number line : ℕ) → number < 10 → line < 100000 → length (refusedWith number line) ≤ 16
-refused-length number line a b = simp length-append (omega (arith, digits-width 0 number a, digits-width 4 line b))
+pub refused-length : (number line : ℕ) → number < 100 → line < 100000 → length (refusedWith number line) ≤ 17
+refused-length number line a b = simp length-append (omega (arith, digits-width 1 number a, digits-width 4 line b))
 
 -- One more row.
 pub rows-more : {l m n : List ℕ} {at next q : ℕ} (save reads writes : List ℕ) (partitions s a b : ℕ) →
@@ -77,7 +77,7 @@ unfolding rowsIn segmentRows segmentRow maskIn
 rows-same t zero = refl
 rows-same t (suc n) = rw (rows-same t n)
 
-pub number-small : (r : Refusal) → numberOf r < 10
+pub number-small : (r : Refusal) → numberOf r < 100
 number-small Accepted = omega arith
 number-small TooLong = omega arith
 number-small (Malformed line) = omega arith
@@ -87,6 +87,7 @@ number-small (Clash line) = omega arith
 number-small Incomplete = omega arith
 number-small CodeUnreadable = omega arith
 number-small FlowMissing = omega arith
+number-small StraySource = omega arith
 
 accepted-zero : (r : Refusal) → isAccepted r ≡ eqb (numberOf r) 0
 accepted-zero Accepted = refl
@@ -98,6 +99,7 @@ accepted-zero (Clash line) = refl
 accepted-zero Incomplete = refl
 accepted-zero CodeUnreadable = refl
 accepted-zero FlowMissing = refl
+accepted-zero StraySource = refl
 
 module _ (refusal : Refusal) (v : View) where
   pub report-accepted : numberOf refusal ≡ 0 → reportWith refusal v ≡ acceptedRow v ++ segmentRows v (v .segments)

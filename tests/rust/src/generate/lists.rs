@@ -2,7 +2,7 @@
 
 use super::memories::memory;
 use super::policies::{policy, Shape};
-use super::records::perturb;
+use super::records::{one_source, perturb};
 use crate::boundary::{Place, Policy, MEMORY};
 use crate::random::Random;
 
@@ -75,7 +75,12 @@ pub fn list(random: &mut Random) -> List {
     let shape = if random.one_in(3) { Shape::APART } else { Shape::any(random) };
     let policy = policy(random, shape);
     let mut second = policy;
-    perturb(random, &mut second);
+    if random.one_in(3) {
+        let p = random.below(policy.partitions as usize);
+        one_source(random, &mut second, p);
+    } else {
+        perturb(random, &mut second);
+    }
     let mut memory = memory(random, &policy, 60);
     memory.resize(MEMORY + BEHIND, 0xA5);
     let place = place(random, &policy);

@@ -1,5 +1,6 @@
 //! Changes to a text, line by line and field by field, near every limit.
 
+use super::flows;
 use super::numbers::{damage, hexadecimal, is_place, other_form, rewrite, worth};
 use crate::random::Random;
 
@@ -55,11 +56,11 @@ const WORDS: [&str; 16] = [
 ];
 const LETTERS: [&str; 14] = ["r", "w", "rw", "wr", "R", "", "rr", "rwr", "r ", "x", "0", "3", "0x1", "0x3"];
 
-fn word(line: &[Vec<u8>]) -> &[u8] {
+pub(super) fn word(line: &[Vec<u8>]) -> &[u8] {
     line.first().map_or(&[], |word| word)
 }
 
-fn number(line: &[Vec<u8>], field: usize) -> usize {
+pub(super) fn number(line: &[Vec<u8>], field: usize) -> usize {
     line.get(field).and_then(|field| worth(field)).unwrap_or(0)
 }
 
@@ -85,7 +86,7 @@ pub fn mutate(random: &mut Random, lines: &mut Lines) {
     let Some(at) = line_of(random, lines, kind) else {
         return lines.push(vec![random.pick(&WORDS).into()]);
     };
-    match random.below(12) {
+    match random.below(14) {
         0..=2 => {
             field(random, &mut lines[at]);
             // A second change to the same line: lines that break two rules.
@@ -100,14 +101,9 @@ pub fn mutate(random: &mut Random, lines: &mut Lines) {
         8 => one_more(random, lines),
         9 => drop_needed(random, lines),
         10 => two_rules(random, lines),
-        _ => {
-            // One kind missing.
-            if random.one_in(4) {
-                lines.retain(|line| word(line) != kind.as_bytes());
-            } else {
-                repair_free(random, lines);
-            }
-        }
+        // One kind missing.
+        11 if random.one_in(4) => lines.retain(|line| word(line) != kind.as_bytes()),
+        _ => flows::change(random, lines),
     }
 }
 
@@ -234,7 +230,7 @@ fn one_more(random: &mut Random, lines: &mut Lines) {
     lines.splice(end..end, new);
 }
 
-/// Rules 7 and 8: a right on the code segment gone or weakened, a right made wider, a flow gone.
+/// Rules 7, 8 and 16: a right on the code segment or another gone or weakened, a right made wider, a flow gone.
 fn drop_needed(random: &mut Random, lines: &mut Lines) {
     match random.below(4) {
         0 => {
@@ -295,22 +291,4 @@ fn two_rules(random: &mut Random, lines: &mut Lines) {
             lines.insert(to, line);
         }
     }
-}
-
-/// Flow lines beyond those asked for, and rights that need none: still accepted, if all goes well.
-fn repair_free(random: &mut Random, lines: &mut Lines) {
-    let segments = lines.iter().filter(|line| word(line) == b"segment").count();
-    let start = lines.iter().position(|line| word(line) == b"flow").unwrap_or(lines.len());
-    let end = lines.iter().rposition(|line| word(line) == b"flow").map_or(start, |at| at + 1);
-    if start > end || lines[start..end].iter().any(|line| word(line) != b"flow") {
-        return;
-    }
-    let mut pairs: Vec<(usize, usize)> = lines[start..end].iter().map(|line| (number(line, 1), number(line, 2))).collect();
-    pairs.push((random.below(segments + 1), random.below(segments)));
-    pairs.sort();
-    pairs.dedup();
-    let mut new: Lines = pairs.iter().map(|(from, to)| vec![b"flow".to_vec(), from.to_string().into_bytes(), to.to_string().into_bytes()]).collect();
-    let rate = random.pick(&[1, 3, 1_000]);
-    rewrite(random, &mut new, rate);
-    lines.splice(start..end, new);
 }

@@ -2,6 +2,7 @@
 
 use crate::boundary::{Policy, RECORD};
 use crate::random::Random;
+use crate::reference::{readable, writable};
 
 /// Changes one byte of a record.
 pub fn change(policy: &mut Policy, at: usize, with: impl Fn(u8) -> u8) {
@@ -16,7 +17,8 @@ pub fn masks(policy: &mut Policy) -> impl Iterator<Item = &mut u32> {
 }
 
 /// A record with every single bit of every mask turned (bits past the last segment, on save segments, from a segment to itself, bit 31, and those of
-/// masks that aren't in use); every mask with all bits, none, or the highest alone; and the unused byte not 0.
+/// masks that aren't in use); every mask with all bits, none, or the highest alone; each r turned with the flow into the save segment; and the unused
+/// byte not 0.
 pub fn near(policy: &Policy) -> Vec<Policy> {
     let mut records = Vec::new();
     let mut with = |at: usize, value: fn(u32, u32) -> u32, bit: u32| {
@@ -31,6 +33,12 @@ pub fn near(policy: &Policy) -> Vec<Policy> {
         with(at, |mask, _| !mask, 0);
         with(at, |_, _| 0, 0);
         with(at, |_, bit| bit, 31);
+    }
+    for (p, bit) in (0..8).flat_map(|p| (0..32).map(move |s| (p, 1 << s))) {
+        let mut other = *policy;
+        other.reads[p] ^= bit;
+        other.sources[other.save[p] as usize % 32] ^= bit;
+        records.push(other);
     }
     for all in [0, u32::MAX] {
         let mut other = *policy;
@@ -55,7 +63,7 @@ fn one_change(random: &mut Random, policy: &mut Policy) {
     let p = random.below(partitions + 1).min(7);
     let slot = random.below(slots + 1).min(31);
     let small = random.pick(&[0, 1, 2, 3, 4, 7, 8, 9, 31, 32, 33, 128, 255]);
-    match random.below(18) {
+    match random.below(22) {
         0 => policy.segments = random.pick(&[policy.segments.wrapping_add(1), policy.segments.wrapping_sub(1), 0, 31, 32, 33, 255]),
         1 => policy.partitions = random.pick(&[policy.partitions.wrapping_add(1), policy.partitions.wrapping_sub(1), 0, 7, 8, 9, 255]),
         2 => policy.slots = random.pick(&[policy.slots.wrapping_add(1), policy.slots.wrapping_sub(1), 0, 31, 32, 33, 255]),
@@ -73,9 +81,42 @@ fn one_change(random: &mut Random, policy: &mut Policy) {
         14 => policy.sources[s] ^= 1 << s,
         15 => one_mask(random, policy),
         16 => policy.unused = random.byte(),
+        17..=18 => one_source(random, policy, p),
+        19 => more_elsewhere(random, policy),
+        20 => one_reader(random, policy, p),
         _ => {
             let (at, value) = (random.below(RECORD), random.byte());
             change(policy, at, |_| value);
+        }
+    }
+}
+
+/// One flow more into the save segment of p: a stray one, unless p may read all segments.
+pub fn one_source(random: &mut Random, policy: &mut Policy, p: usize) {
+    let strays: Vec<usize> = (0..policy.segments as usize % 33).filter(|&s| !readable(policy, p, s)).collect();
+    if !strays.is_empty() {
+        policy.set_flow(random.pick(&strays), policy.save[p] as usize % 32, true);
+    }
+}
+
+/// One flow more into a segment that is no save segment.
+fn more_elsewhere(random: &mut Random, policy: &mut Policy) {
+    let (from, to) = (random.below(policy.segments as usize % 33), random.below(policy.segments as usize % 33));
+    if from != to && !policy.is_save(to) {
+        policy.set_flow(from, to, true);
+    }
+}
+
+/// A right r more, with the flows that it asks for: one source more that the save segment of p may have.
+fn one_reader(random: &mut Random, policy: &mut Policy, p: usize) {
+    let s = random.below(policy.segments as usize % 33);
+    if policy.is_save(s) {
+        return;
+    }
+    policy.set_right(p, s, policy.right(p, s) | 1);
+    for to in (0..32).filter(|&to| to != s) {
+        if writable(policy, p, to) {
+            policy.set_flow(s, to, true);
         }
     }
 }

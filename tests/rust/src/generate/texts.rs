@@ -95,46 +95,89 @@ fn spoil_bytes(random: &mut Random, text: &mut Vec<u8>) {
 
 /// Lines put together one by one: mostly in order and in range.
 fn soup(random: &mut Random) -> Vec<u8> {
-    let mut text = String::new();
-    let mut counts = [0, 0];
-    let number = |random: &mut Random, most: usize| match random.below(30) {
+    // How many lines of each kind.
+    const COUNTS: [[usize; 8]; 5] =
+        [[0, 1, 2, 3, 4, 4, 4, 6], [0, 1, 1, 1, 1, 1, 2, 3], [0, 1, 1, 1, 2, 2, 3, 6], [0, 1, 1, 2, 2, 3, 4, 6], [0, 1, 1, 1, 2, 2, 3, 4]];
+    let mut soup = Soup::default();
+    for (kind, counts) in COUNTS.iter().enumerate() {
+        soup.pair = (0, 0);
+        for _ in 0..random.pick(counts) {
+            let kind = if random.one_in(60) { random.below(5) } else { kind };
+            soup.line(random, kind);
+        }
+    }
+    soup.text.into_bytes()
+}
+
+#[derive(Default)]
+struct Soup {
+    text: String,
+    segments: usize,
+    partitions: usize,
+    /// Where the last segment ends.
+    base: usize,
+    /// That of the last line of the kind.
+    pair: (usize, usize),
+}
+
+impl Soup {
+    fn line(&mut self, random: &mut Random, kind: usize) {
+        self.next_pair(random, kind);
+        let pair = self.pair;
+        let line = match kind {
+            0 => self.segment(random),
+            1 => self.partition(random),
+            2 => format!("right\t{}\t{}\t{}\n", pair.0, pair.1, random.pick(&["r", "r", "rw", "w"])),
+            3 => format!("flow\t{}\t{}\n", pair.0, pair.1),
+            _ => format!("slot\t{}\t{}\n", below(random, self.partitions), random.pick(&[1, 2, 3, 1_000, 1_000, 1_001, 0])),
+        };
+        self.text += &line;
+    }
+
+    /// Pairs ascend mostly, and every other flow goes into a segment that may be a save segment.
+    fn next_pair(&mut self, random: &mut Random, kind: usize) {
+        let (first, second) = self.pair;
+        self.pair = match random.below(12) {
+            0 => (first, second),
+            _ if kind == 3 && random.one_in(2) => (first + 1, 2 * random.below(self.partitions)),
+            1..=8 => (first, second + random.from(1, 2)),
+            _ => (first + 1, random.below(2)),
+        };
+    }
+
+    fn segment(&mut self, random: &mut Random) -> String {
+        let length = if random.one_in(2) { 44 } else { random.pick(&[[44, 44, 44, 12], [44, 12, 1, 64]][self.segments % 2]) };
+        let base = if random.one_in(15) { below(random, 400) } else { self.base };
+        self.base = base + length;
+        self.segments += 1;
+        format!("segment\t{}\t{base}\t{length}\n", next(random, self.segments - 1))
+    }
+
+    /// Mostly an even segment to save in, and the one behind it for code.
+    fn partition(&mut self, random: &mut Random) -> String {
+        let id = self.partitions;
+        self.partitions += 1;
+        let (code, save) = if random.one_in(4) { (below(random, self.segments), below(random, self.segments)) } else { (2 * id + 1, 2 * id) };
+        format!("partition\t{}\t{code}\t{save}\n", next(random, id))
+    }
+}
+
+/// A number below a limit, mostly.
+fn below(random: &mut Random, most: usize) -> usize {
+    match random.below(30) {
         0 => random.pick(&[0, 7, 8, 31, 32, 33, 44, 4_096, 4_097, 16_384, 65_536, 99_999]),
         1 => most,
         _ => random.below(most.max(1)),
-    };
-    let mut base = 0;
-    for kind in 0..5 {
-        let lines = random.pick(&[0, 1, 1, 2, 2, 3, 4, 6]);
-        let mut pair = (0, 0);
-        for _ in 0..lines {
-            let kind = if random.one_in(60) { random.below(5) } else { kind };
-            let next = |random: &mut Random, count: usize| if random.one_in(60) { number(random, count) } else { count };
-            pair = match random.below(12) {
-                0 => pair,
-                1..=8 => (pair.0, pair.1 + random.from(1, 2)),
-                _ => (pair.0 + 1, random.below(2)),
-            };
-            text += &match kind {
-                0 => {
-                    let length = random.pick(&[44, 44, 44, 44, 12, 1, 64]);
-                    let at = if random.one_in(15) { number(random, 400) } else { base };
-                    base = at + length;
-                    let line = format!("segment\t{}\t{at}\t{length}\n", next(random, counts[0]));
-                    counts[0] += 1;
-                    line
-                }
-                1 => {
-                    let line = format!("partition\t{}\t{}\t{}\n", next(random, counts[1]), number(random, counts[0]), number(random, counts[0]));
-                    counts[1] += 1;
-                    line
-                }
-                2 => format!("right\t{}\t{}\t{}\n", pair.0, pair.1, random.pick(&["r", "r", "rw", "w"])),
-                3 => format!("flow\t{}\t{}\n", pair.0, pair.1),
-                _ => format!("slot\t{}\t{}\n", number(random, counts[1]), random.pick(&[1, 2, 3, 1_000, 1_000, 1_001, 0])),
-            };
-        }
     }
-    text.into_bytes()
+}
+
+/// The next id, mostly.
+fn next(random: &mut Random, count: usize) -> usize {
+    if random.one_in(60) {
+        below(random, count)
+    } else {
+        count
+    }
 }
 
 /// Bytes and pieces of lines in no order.

@@ -76,7 +76,7 @@ impl Bytes {
         (*self != other).then(|| format!("counts or tables: {self:?}, masks {policy:?}"))
     }
 
-    /// "A record is sound if some accepted text gives it.": the rules of the lines, entry by entry.
+    /// "A record is sound if some accepted text gives it.": the rules of the lines and of the whole text, entry by entry.
     pub fn sound(&self) -> bool {
         let [segments, partitions, slots] = self.counts.map(usize::from);
         (1..=32).contains(&segments)
@@ -89,6 +89,7 @@ impl Bytes {
             && (slots..32).all(|i| self.slots[i] == (0, 0))
             && (0..partitions).all(|p| self.may(p, usize::from(self.partitions[p].0), 1))
             && !self.lacks_flow(segments, partitions)
+            && (0..partitions).all(|p| !self.has_stray_source(p))
     }
 
     fn segments_sound(&self, segments: usize) -> bool {
@@ -146,5 +147,11 @@ impl Bytes {
             }
         }
         false
+    }
+
+    /// Change request S-5: a flow into the save segment of p that comes from no segment of R(p).
+    fn has_stray_source(&self, p: usize) -> bool {
+        let save = usize::from(self.partitions[p].1);
+        (0..32).any(|s| s != save && self.flows[s][save] != 0 && !self.may(p, s, 1))
     }
 }

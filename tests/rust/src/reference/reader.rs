@@ -1,8 +1,9 @@
-//! Reading a policy: refusals 1 to 8, in their order.
+//! Reading a policy: refusals 1 to 8 and 16, in their order.
 
 use super::line::{parse, Kind, Line};
 use super::record::Lines;
-use crate::boundary::{Policy, ReadResult};
+use crate::boundary::ReadResult;
+use crate::{accepted, refused};
 
 /// A refused text: the number, the line, and why (for the count of what the tests have reached).
 #[derive(Clone, Debug)]
@@ -10,8 +11,24 @@ pub struct Refusal {
     pub number: u32,
     pub line: u32,
     pub why: &'static str,
-    /// The later rule that the same line breaks too, if there is one.
-    pub also: Option<&'static str>,
+    /// The later rules that the same line, or with line 0 the text, breaks too.
+    pub also: Vec<u32>,
+}
+
+/// A rule's number, and why it is broken if it is.
+type Rule = (u32, Option<&'static str>);
+
+impl Refusal {
+    fn one(number: u32, line: u32, why: &'static str) -> Refusal {
+        Refusal { number, line, why, also: Vec::new() }
+    }
+
+    /// Of the first rule of a list that is broken.
+    fn first(line: u32, rules: &[Rule]) -> Option<Refusal> {
+        let mut broken = rules.iter().filter_map(|&(number, why)| Some((number, why?)));
+        let (number, why) = broken.next()?;
+        Some(Refusal { number, line, why, also: broken.map(|later| later.0).collect() })
+    }
 }
 
 /// The lines accepted so far.
@@ -24,17 +41,28 @@ struct Seen {
 /// "A refusal returns number, line and the record of zeros. An accepted text returns number 0, line 0 and its record."
 pub fn read(text: &[u8]) -> ReadResult {
     match judge(text) {
-        Ok(lines) => ReadResult { number: 0, line: 0, policy: lines.record() },
-        Err(refusal) => ReadResult { number: refusal.number, line: refusal.line, policy: Policy::ZERO },
+        Ok(lines) => accepted(lines.record()),
+        Err(refusal) => refused(refusal.number, refusal.line),
     }
 }
 
 /// The lines of an accepted text.
 pub fn judge(text: &[u8]) -> Result<Lines, Refusal> {
-    let refuse = |number, line, why| Err(Refusal { number, line, why, also: None });
+    let lines = lines(text)?;
+    Refusal::first(0, &whole(&lines)).map_or(Ok(lines), Err)
+}
+
+/// The same by the rules before change request S-5, which had no 16.
+pub fn judge_without_16(text: &[u8]) -> Result<Lines, Refusal> {
+    let lines = lines(text)?;
+    Refusal::first(0, &whole(&lines)[..3]).map_or(Ok(lines), Err)
+}
+
+/// The lines of a text in which each line is good.
+fn lines(text: &[u8]) -> Result<Lines, Refusal> {
     // "1: over 16,384 bytes, line 0."
     if text.len() > 16_384 {
-        return refuse(1, 0, "1 over 16,384 bytes");
+        return Err(Refusal::one(1, 0, "1 over 16,384 bytes"));
     }
     // "Then the first bad line, counted from 1, and within it in this order."
     let mut seen = Seen::default();
@@ -44,42 +72,30 @@ pub fn judge(text: &[u8]) -> Result<Lines, Refusal> {
         line_number += 1;
         // "Lines end in hex 0A, the last one too."
         let Some(end) = rest.iter().position(|&byte| byte == 0x0A) else {
-            return refuse(2, line_number, "2 no line end");
+            return Err(Refusal::one(2, line_number, "2 no line end"));
         };
-        let line = match parse(&rest[..end]) {
-            Ok(line) => line,
-            Err(why) => return refuse(2, line_number, why),
-        };
+        let line = parse(&rest[..end]).map_err(|why| Refusal::one(2, line_number, why))?;
         rest = &rest[end + 1..];
-        let breaks: Vec<(u32, &'static str)> = [(3, seen.order(&line)), (4, seen.range(&line)), (5, seen.clash(&line))]
-            .into_iter()
-            .filter_map(|(number, broken)| broken.map(|why| (number, why)))
-            .collect();
-        if let Some(&(number, why)) = breaks.first() {
-            return Err(Refusal { number, line: line_number, why, also: breaks.get(1).map(|second| second.1) });
+        if let Some(refusal) = Refusal::first(line_number, &[(3, seen.order(&line)), (4, seen.range(&line)), (5, seen.clash(&line))]) {
+            return Err(refusal);
         }
         seen.add(&line);
     }
-    // "Then, with line 0: 6: no segment, partition or slot."
-    let lines = seen.lines;
-    if lines.segments.is_empty() {
-        return refuse(6, 0, "6 no segment");
-    }
-    if lines.partitions.is_empty() {
-        return refuse(6, 0, "6 no partition");
-    }
-    if lines.slots.is_empty() {
-        return refuse(6, 0, "6 no slot");
-    }
-    // "7: a partition lacks r on its code segment."
-    if lines.lack_code_right() {
-        return refuse(7, 0, "7 no r on the code segment");
-    }
-    // "8: for some p, t in W(p) and s in R(p) other than t, 'flow s t' is missing."
-    if lines.lack_flow() {
-        return refuse(8, 0, "8 flow missing");
-    }
-    Ok(lines)
+    Ok(seen.lines)
+}
+
+/// "Then, with line 0": the rules on the whole text.
+fn whole(lines: &Lines) -> [Rule; 4] {
+    [
+        // "6: no segment, partition or slot."
+        (6, lines.lack_kind()),
+        // "7: a partition lacks r on its code segment."
+        (7, lines.lack_code_right().then_some("7 no r on the code segment")),
+        // "8: for some p, t in W(p) and s in R(p) other than t, 'flow s t' is missing."
+        (8, lines.lack_flow().then_some("8 flow missing")),
+        // Change request S-5: "16 if a flow line into a save segment has another source, line 0, after 8."
+        (16, lines.stray_source()),
+    ]
 }
 
 impl Seen {

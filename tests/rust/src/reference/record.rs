@@ -1,4 +1,4 @@
-//! The policy record: its lines, rules 7 and 8, sound records, chains of flow lines, and the text of a record.
+//! The policy record: its lines, rules 6, 7, 8 and 16, sound records, chains of flow lines, and the text of a record.
 
 use crate::boundary::Policy;
 
@@ -69,6 +69,12 @@ impl Lines {
         lines.map(|line| line.1).chain([self.partitions[p].1]).collect()
     }
 
+    /// "6: no segment, partition or slot."
+    pub fn lack_kind(&self) -> Option<&'static str> {
+        let kinds = [(self.segments.len(), "6 no segment"), (self.partitions.len(), "6 no partition"), (self.slots.len(), "6 no slot")];
+        kinds.into_iter().find(|kind| kind.0 == 0).map(|kind| kind.1)
+    }
+
     /// "7: a partition lacks r on its code segment."
     pub fn lack_code_right(&self) -> bool {
         let reads = |p: usize, code: u32| self.rights.iter().any(|&(q, s, right)| (q as usize, s) == (p, code) && right & 1 != 0);
@@ -84,6 +90,32 @@ impl Lines {
             writes.iter().any(|&t| reads.iter().any(|&s| s != t && !there[s as usize][t as usize]))
         })
     }
+
+    /// Change request S-5: "a flow line into p's save segment must come from a segment of R(p)". For some p what a source is that doesn't.
+    pub fn stray_source(&self) -> Option<&'static str> {
+        (0..self.partitions.len()).find_map(|p| {
+            let (reads, save) = (self.reached(p, 1), self.partitions[p].1);
+            let stray = self.flows.iter().find(|&&(from, to)| to == save && !reads.contains(&from))?;
+            Some(self.stray_kind(p, stray.0))
+        })
+    }
+
+    /// What a segment is that p may not read.
+    fn stray_kind(&self, p: usize, segment: u32) -> &'static str {
+        if !self.slots.iter().any(|slot| slot.0 as usize == p) {
+            "16 for a partition without a slot"
+        } else if self.reached(p, 2).contains(&segment) {
+            "16 from a segment with w alone"
+        } else if self.partitions.iter().any(|partition| partition.1 == segment) {
+            "16 from another's save segment"
+        } else if self.partitions.iter().any(|partition| partition.0 == segment) {
+            "16 from another's code segment"
+        } else if (0..self.partitions.len()).any(|q| self.reached(q, 1).contains(&segment)) {
+            "16 from a segment that another reads"
+        } else {
+            "16 from a segment that nobody reads"
+        }
+    }
 }
 
 pub fn readable(policy: &Policy, partition: usize, segment: usize) -> bool {
@@ -94,12 +126,16 @@ pub fn writable(policy: &Policy, partition: usize, segment: usize) -> bool {
     policy.save[partition] as usize == segment || policy.right(partition, segment) & 2 != 0
 }
 
+/// Rule 8 asks for the line "flow s t".
+pub fn asked(policy: &Policy, s: usize, t: usize) -> bool {
+    s != t && (0..policy.partitions as usize).any(|p| readable(policy, p, s) && writable(policy, p, t))
+}
+
 /// "A record is sound if some accepted text gives it." An accepted text has one line for each segment, partition and slot and for each right and flow,
 /// so each rule on a line is a rule on the entries that the line gives; and nothing else stands in the record.
 pub fn sound(policy: &Policy) -> bool {
     let Some(lines) = Lines::of(policy) else { return false };
-    // 6: "no segment, partition or slot".
-    !(lines.segments.is_empty() || lines.partitions.is_empty() || lines.slots.is_empty())
+    lines.lack_kind().is_none()
         && segments_sound(&lines.segments)
         && partitions_sound(&lines)
         && rights_sound(&lines)
@@ -107,6 +143,7 @@ pub fn sound(policy: &Policy) -> bool {
         && slots_sound(&lines)
         && !lines.lack_code_right()
         && !lines.lack_flow()
+        && lines.stray_source().is_none()
         // "Unused entries are 0."
         && lines.record().bytes() == policy.bytes()
 }

@@ -1,6 +1,6 @@
 //! Reading a policy in one pass over its bytes: one loop for each kind of line.
 
-use super::record::{flow_missing, Roles};
+use super::record::{flow_missing, save_sources, Roles};
 use crate::boundary::{Policy, ReadResult};
 
 /// The worth of each byte as a hexadecimal digit, 16 where it is none.
@@ -198,7 +198,7 @@ fn segments(cursor: &mut Cursor, policy: &mut Policy, line: &mut u32) -> Result<
 /// What the partitions' lines give, without the rights.
 #[inline(always)]
 fn partitions(cursor: &mut Cursor, policy: &mut Policy, line: &mut u32) -> Result<Roles, u32> {
-    let mut roles = Roles { reached: [0; 8], written: [0; 8], saves: 0 };
+    let mut roles = Roles { reached: [0; 8], saves: 0 };
     let (mut codes, mut count) = (0_u32, 0);
     while cursor.word(b"partition\t") {
         *line += 1;
@@ -216,7 +216,6 @@ fn partitions(cursor: &mut Cursor, policy: &mut Policy, line: &mut u32) -> Resul
         codes |= code_bit;
         roles.saves |= save_bit;
         roles.reached[id as usize] = save_bit;
-        roles.written[id as usize] = save_bit;
         policy.code[id as usize] = code as u8;
         policy.save[id as usize] = save as u8;
         count += 1;
@@ -289,7 +288,7 @@ fn slots(cursor: &mut Cursor, policy: &mut Policy, line: &mut u32) -> Result<(),
     Ok(())
 }
 
-/// Rules 7 and 8.
+/// Rules 7, 8 and 16.
 #[inline(always)]
 fn whole(policy: &Policy, mut roles: Roles) -> Result<(), u32> {
     let partitions = policy.partitions as usize;
@@ -298,10 +297,13 @@ fn whole(policy: &Policy, mut roles: Roles) -> Result<(), u32> {
             return Err(7);
         }
         roles.reached[p] |= policy.reads[p];
-        roles.written[p] |= policy.writes[p];
     }
-    if flow_missing(policy, &roles, partitions) {
+    let (lacking, stray) = save_sources(policy, partitions);
+    if lacking != 0 || flow_missing(policy, &roles, partitions) {
         return Err(8);
+    }
+    if stray != 0 {
+        return Err(16);
     }
     Ok(())
 }

@@ -2,10 +2,9 @@
 
 use crate::boundary::Policy;
 
-/// What the partitions' lines give: for each partition R(p) and W(p) as masks, 0 past the last, and the mask of all save segments.
+/// What the partitions' lines give: for each partition R(p) as a mask, 0 past the last, and the mask of all save segments.
 pub struct Roles {
     pub reached: [u32; 8],
-    pub written: [u32; 8],
     pub saves: u32,
 }
 
@@ -33,22 +32,22 @@ pub fn sound(policy: &Policy) -> bool {
         && !flow_missing(policy, &roles, partitions)
 }
 
-/// Code and save segments, with rule 7.
+/// Code and save segments, with rule 7, and rules 8 and 16 for save segments: together they ask for the sources that the partition has r on, no right
+/// being on a save segment.
 fn roles(policy: &Policy, segments: usize, partitions: usize) -> Option<Roles> {
     // Past the last partition all is 0.
     let past = |bytes: [u8; 8]| u64::from_le_bytes(bytes) >> (8 * (partitions - 1)) >> 8;
     if past(policy.code) | past(policy.save) != 0 {
         return None;
     }
-    let mut roles = Roles { reached: [0; 8], written: [0; 8], saves: 0 };
+    let mut roles = Roles { reached: [0; 8], saves: 0 };
     let mut codes = 0_u32;
     for p in 0..partitions {
-        let (code, save) = (policy.code[p] as usize, policy.save[p] as usize);
-        if code.max(save) >= segments || policy.size[save] != 44 || policy.reads[p] >> code & 1 == 0 {
+        let (code, save, reads) = (policy.code[p] as usize, policy.save[p] as usize, policy.reads[p]);
+        if code.max(save) >= segments || policy.size[save] != 44 || reads >> code & 1 == 0 || policy.sources[save] != reads {
             return None;
         }
-        roles.reached[p] = policy.reads[p] | 1 << save;
-        roles.written[p] = policy.writes[p] | 1 << save;
+        roles.reached[p] = reads | 1 << save;
         roles.saves |= 1 << save;
         codes |= 1 << code;
     }
@@ -106,12 +105,25 @@ fn masks_sound(policy: &Policy, partitions: usize, there: u32, open: u32) -> boo
     stray == 0
 }
 
-/// Rule 8: for each target what the partitions that write it read, less its sources and itself.
+/// Rules 8 and 16 for save segments: sources that some of them lack, and stray ones. In a function of its own, so that the reader's loops keep their
+/// registers.
+#[inline(never)]
+pub fn save_sources(policy: &Policy, partitions: usize) -> (u32, u32) {
+    let (mut lacking, mut stray) = (0, 0);
+    for (reads, save) in policy.reads.iter().zip(policy.save).take(partitions) {
+        let sources = policy.sources[(save & 31) as usize];
+        lacking |= reads & !sources;
+        stray |= sources & !reads;
+    }
+    (lacking, stray)
+}
+
+/// Rule 8 but for save segments: for each target what the partitions with w on it read, less its sources and itself.
 pub fn flow_missing(policy: &Policy, roles: &Roles, partitions: usize) -> bool {
     let mut asked = [0_u32; 32];
     for p in 0..partitions {
         for (asked, bit) in asked.iter_mut().zip(&BITS) {
-            *asked |= if roles.written[p] & bit != 0 { roles.reached[p] } else { 0 };
+            *asked |= if policy.writes[p] & bit != 0 { roles.reached[p] } else { 0 };
         }
     }
     let mut missing = 0;

@@ -7,10 +7,9 @@ use borrow.Author.Tests.{not-true, not-false}
 use borrow.Author.Needs.{needs}
 use Rattle.policy.proofs.Entries.{counts}
 use Rattle.policy.specs.Limits.{single}
-use Rattle.policy.specs.Read.{wholeRefusal}
 use Rattle.policy.specs.Sound.{countsFit, unusedZero}
 use Rattle.policy.specs.Tables.{viewOf}
-use Rattle.policy.specs.Whole.{incomplete, codeUnreadable, flowMissing}
+use Rattle.wholerules.proofs.Laws.Parts.{parts-refusal}
 use Rattle.validate.specs.Parts.{recordOf}
 use Rattle.validate.proofs.test.lent_passes.Statement.{statement}
 use Rattle.validate.proofs.test.lent_passes.Tie as tie
@@ -45,15 +44,17 @@ is-accepted-requires : tie.Need-is-accepted-requires
 is-accepted-requires c κs = search needs
 
 returns-2 : tie.Need-returns-2
-unfolding countsFit unusedZero wholeRefusal incomplete codeUnreadable flowMissing
+unfolding countsFit unusedZero
 returns-2 c =
     let lines = c .before .before in
-    let n = c .before .before .before .before .before .before .before .before .before .before .before .before .before .before .args .counts in
+    let a = c .before .before .before .before .before .before .before .before .before .before .before .before .before .before .args in
+    let n = a .counts in
     let fit : countsFit single (viewOf (recordOf n [] [] [] [] [] [] [] [] [])) ≡ true =
     not-false _ (lines .before .before .if1 .left) in
     rw (
       c .is-accepted .ensures,
       c .before .lent-refusal .ensures,
+      parts-refusal (recordOf n (a .base .now) (a .size .now) (a .code .now) (a .save .now) (a .owner .now) (a .ticks .now) (a .reads .now) (a .writes .now) (a .sources .now)),
       lines .lines-hold .ensures,
       lines .before .unused-zero .ensures,
       fit,

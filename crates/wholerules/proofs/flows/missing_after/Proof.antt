@@ -78,7 +78,7 @@ returns : tie.Need-returns Inv-loop μ-loop
 returns c =
     let l = c .before in
     let q : l .loop .t ≡ l .before .before .before .before .before .before .before .before .before .before .args .targets = omega arith in
-    l .loop .inv .1 ∙ rw q
+    (l .loop .inv .1 ∙ rw q, l .before .before .before .reach-all .ensures .4)
 
 pub missing-after-spec : {M : Type 1} → statement M
 missing-after-spec =

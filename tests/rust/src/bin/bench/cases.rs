@@ -63,7 +63,7 @@ pub const CASES: [Case; 20] = [
     call("Run of 0 ticks, largest record", 100, |kernel, calls| kernel.run(&longest(), &[0; MEMORY], 0, calls)),
     call("Read, demonstration (225 bytes)", 200, |kernel, calls| kernel.read(DEMONSTRATION, calls)),
     call("Read, 32/8/32 with few flows (1,363 bytes)", 100, |kernel, calls| kernel.read(&text_of(&few_flows()), calls)),
-    call("Read, longest text in decimal (14,143 bytes)", 10, |kernel, calls| kernel.read(&text_of(&longest()), calls)),
-    call("Read, 1,124 lines in decimal (12,293 bytes)", 10, |kernel, calls| kernel.read(&text_of(&full_in_hexadecimal()), calls)),
+    call("Read, longest text in decimal (13,639 bytes)", 10, |kernel, calls| kernel.read(&text_of(&longest()), calls)),
+    call("Read, 1,096 lines in decimal (12,391 bytes)", 10, |kernel, calls| kernel.read(&text_of(&full_in_hexadecimal()), calls)),
     call("Read, the same in hexadecimal (16,384 bytes)", 10, |kernel, calls| kernel.read(&hexadecimal_text_of(&full_in_hexadecimal()), calls)),
 ];

@@ -41,9 +41,9 @@ fn assert_reads(kernel: &dyn Kernel) {
     for (text, length, lines) in [
         (DEMONSTRATION.to_vec(), 225, 18),
         (text_of(&few_flows()), 1_363, 88),
-        (text_of(&longest()), 14_143, 1_256),
-        (text_of(&full), 12_293, 1_124),
-        (hexadecimal_text_of(&full), 16_384, 1_124),
+        (text_of(&longest()), 13_639, 1_200),
+        (text_of(&full), 12_391, 1_096),
+        (hexadecimal_text_of(&full), 16_384, 1_096),
     ] {
         assert_eq!((text.len(), text.iter().filter(|&&byte| byte == b'\n').count()), (length, lines));
         let answer = kernel.read(&text);
