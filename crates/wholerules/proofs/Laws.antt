@@ -1,5 +1,5 @@
 pub mod Parts
 pub mod Filled
 pub mod Asked
-pub mod Sources
 pub mod Strays
+pub mod Sources

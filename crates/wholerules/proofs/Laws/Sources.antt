@@ -1,25 +1,36 @@
 -- One `and` a target decides it: a bit that is asked for and not allowed is a line that is missing, and each missing line is one.
 use Prim.Native.Nat.{ℕ, _^_, _<_}
 use mathlib.Core.Path.{_≡_, refl, sym, _∙_}
-use mathlib.Core.Bool.{Bool, true, false, _&&_, not, true≢false}
+use mathlib.Core.Bool.{Bool, true, false, _&&_, _||_, not, and-true, and-false}
 use mathlib.Core.List.{List, []}
 use lib.Bits.{bitAnd, bitOr}
 use lib.Dec.{eqb}
 use lib.ListN.{getD}
-use borrow.Author.Tests.{eq-eqb, ne-eqb, eqb-false}
 use Rattle.bits.specs.Masks.{has}
-use Rattle.bits.proofs.Laws.Masks.{has-with, mask-under, within-at, within-of}
+use Rattle.bits.proofs.Laws.Masks.{has-with, mask-under}
 use Rattle.bits.proofs.Laws.Sets.{has-below}
 use Rattle.policy.specs.Below.{someBelow}
 use Rattle.policy.specs.View.{View}
 use Rattle.policy.specs.Access.{readable, writable}
-use Rattle.policy.specs.ByTarget.{MissingInto, targetLacks}
-use Rattle.policy.proofs.ByTarget.{target-exact}
-use Rattle.policy.proofs.Laws.Below.{some-at, some-found, some-same}
-use Rattle.policy.proofs.Laws.Bools.{and-left, and-right, or-left, or-right}
+use Rattle.policy.specs.Whole.{flowLacks}
+use Rattle.policy.specs.ByTarget.{targetLacks}
+use Rattle.policy.proofs.Laws.Below.{none-of, some-same}
+use Rattle.policy.proofs.Laws.Exchange.{some-exchange}
 use Rattle.wholerules.specs.Masks.{AreReached, askedInto, reach}
 use Rattle.wholerules.specs.Parts.{partsOf}
 use Rattle.wholerules.proofs.Laws.Asked.{asked-under, has-asked}
+use Rattle.wholerules.proofs.Laws.Strays.{mask-strays}
+
+some-and : (n : ℕ) (f : ℕ → Bool) (b : Bool) → someBelow n f && b ≡ someBelow n (λ i. f i && b)
+some-and n f true = and-true (someBelow n f) ∙ some-same f (λ i. f i && true) n (λ i l. sym (and-true (f i)))
+some-and n f false = and-false (someBelow n f) ∙ sym (none-of (λ i. f i && false) n (λ i l. and-false (f i)))
+
+lacks : (asked own flows : Bool) → asked && not (flows || own) ≡ asked && not own && not flows
+lacks false own flows = refl
+lacks true true true = refl
+lacks true true false = refl
+lacks true false true = refl
+lacks true false false = refl
 
 module _
     (segments partitions : ℕ)
@@ -48,43 +59,18 @@ module _
         ∙ some-same (λ p. has (getD written p 0) t && has (getD reached p 0) s) (asks s) partitions
         (λ p m. rw (r p m, w p m, has-below (reach save writes p) segments t there, has-below (reach save reads p) segments s l))
 
-    missing : (s : ℕ) → s < segments → has asked s ≡ true → has allowed s ≡ false → MissingInto view t
+    -- A source that is asked for and not allowed is one that some partition lacks.
+    lacking : (s : ℕ) → s < segments → has asked s && not (has allowed s) ≡ someBelow partitions (λ p. flowLacks view p t s)
     unfolding asks
-    missing s l h n =
-        let a = some-at (asks s) partitions (sym (asked-at s l) ∙ h) in
-        let e = sym (has-with (getD sources t 0) t s) ∙ n in
-        record {
-          p = a .number;
-          s = s;
-          partition-there = a .below;
-          target-there = there;
-          source-there = l;
-          written = and-left (writable view (a .number) t) (readable view (a .number) s) (a .passes);
-          read = and-right (writable view (a .number) t) (readable view (a .number) s) (a .passes);
-          another = eqb-false s t (or-right (view .flow s t) (eqb s t) e);
-          missing = or-left (view .flow s t) (eqb s t) e;
-        }
-
-    strays : MissingInto view t → bitAnd asked allowed ≡ asked → ⊥
-    unfolding asks
-    strays m e =
-        let found = some-found (asks (m .s)) partitions (m .p) (m .partition-there) (rw (m .written, m .read)) in
-        let h = within-at asked allowed e (m .s) (asked-at (m .s) (m .source-there) ∙ found) in
-        let n : has allowed (m .s) ≡ false = has-with (getD sources t 0) t (m .s) ∙ rw (m .missing, ne-eqb (m .s) t (m .another)) in
-        true≢false (sym h ∙ n)
+    lacking s l =
+        rw (asked-at s l, has-with (getD sources t 0) t s)
+        (some-and partitions (asks s) (not (view .flow s t || eqb s t))
+        ∙ some-same (λ p. asks s p && not (view .flow s t || eqb s t)) (λ p. flowLacks view p t s) partitions
+        (λ p m. lacks (writable view p t && readable view p s) (eqb s t) (view .flow s t)))
 
     pub target-told : not (eqb (bitAnd asked allowed) asked) ≡ targetLacks view t
-    target-told = go (targetLacks view t) refl
-      where
-        go : (b : Bool) → targetLacks view t ≡ b → not (eqb (bitAnd asked allowed) asked) ≡ targetLacks view t
-        go true e = rw (ne-eqb (bitAnd asked allowed) asked (strays (target-exact view t there .0 e)), e)
-        go false e =
-            let all : bitAnd asked allowed ≡ asked =
-            within-of segments asked allowed
-            (asked-under reached written t segments partitions (λ p m. rw (r p m) (mask-under (reach save reads p) segments)))
-            (λ s l h. let-in s l h (has allowed s) refl) in
-            rw (eq-eqb (bitAnd asked allowed) asked all, e)
-          where
-            let-in : (s : ℕ) → s < segments → has asked s ≡ true → (x : Bool) → has allowed s ≡ x → has allowed s ≡ true
-            let-in s l h true q = q
-            let-in s l h false q = absurd (true≢false (sym (target-exact view t there .1 (missing s l h q)) ∙ e))
+    target-told =
+        mask-strays segments asked allowed
+        (asked-under reached written t segments partitions (λ p m. rw (r p m) (mask-under (reach save reads p) segments)))
+        ∙ some-same (λ s. has asked s && not (has allowed s)) (λ s. someBelow partitions (λ p. flowLacks view p t s)) segments lacking
+        ∙ some-exchange (λ s p. flowLacks view p t s) segments partitions

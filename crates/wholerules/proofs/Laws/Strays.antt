@@ -13,7 +13,7 @@ use Rattle.policy.specs.Below.{someBelow}
 use Rattle.policy.proofs.Laws.Below.{none-at, some-at, some-same}
 use Rattle.policy.proofs.Laws.Bools.{and-left, and-right}
 
-mask-strays : (n a b : ℕ) → a < 2 ^ n → not (eqb (bitAnd a b) a) ≡ someBelow n (λ s. has a s && not (has b s))
+pub mask-strays : (n a b : ℕ) → a < 2 ^ n → not (eqb (bitAnd a b) a) ≡ someBelow n (λ s. has a s && not (has b s))
 mask-strays n a b l = go (someBelow n strays) refl
   where
     strays : ℕ → Bool
