@@ -10,10 +10,11 @@
 
 /* 2.0: rights and flows are masks; a record of 1.x does not fit.
  * 2.1: opcodes 13 and 14 load and store four bytes. Both were faults, so memory may now act otherwise under the same policy.
- * 2.2: a flow line into a save segment from a segment that its partition may not read is refused: the text by 16, the record by 10. */
+ * 2.2: a flow line into a save segment from a segment that its partition may not read is refused: the text by 16, the record by 10.
+ * 2.3: sk_reach and sk_can_reach say who can reach whom, with 15 for a number that is no segment's. Nothing else moved. */
 #define SEPARATION_KERNEL_VERSION_MAJOR 2
-#define SEPARATION_KERNEL_VERSION_MINOR 2
-#define SEPARATION_KERNEL_VERSION "2.2"
+#define SEPARATION_KERNEL_VERSION_MINOR 3
+#define SEPARATION_KERNEL_VERSION "2.3"
 
 /* The bytes of memory that Start, Pend and Run take, and the most bytes of a policy text. */
 #define SK_MEMORY_BYTES 16384
@@ -41,6 +42,7 @@ enum sk_refusal {
     SK_NO_LINE = 12,        /* interrupt line above 7 */
     SK_PLACE = 13,          /* slot not in the schedule, or its ticks used up */
     SK_TOO_MANY_TICKS = 14, /* over 10,000 ticks in one Run */
+    SK_NO_SEGMENT = 15,     /* no such segment */
     SK_STRAY_SOURCE = 16    /* a flow line into a save segment from a segment that its partition may not read */
 };
 
@@ -80,6 +82,15 @@ struct sk_run_result {
     struct sk_place place;
 };
 
+struct sk_reach_result {
+    uint32_t number;
+    uint32_t sources[32]; /* bit s of sources[t]: a chain leads from s to t */
+};
+
+struct sk_answer {
+    uint32_t number, yes; /* yes: 1 or 0 */
+};
+
 /* Reads a policy text. Accepted: number 0, line 0 and its record. Refused: 1 to 8 or 16, the bad line counted from 1 (0 if it is no single line's
  * fault), and the record of zeros.
  *
@@ -102,6 +113,19 @@ uint32_t sk_pend(struct sk_policy policy, uint8_t *memory, size_t memory_len, ui
 /* Runs 0 to 10,000 ticks from a place, and returns the place after them.
  * Refused: 9, 10, 13 or 14, and the place that was given. */
 struct sk_run_result sk_run(struct sk_policy policy, uint8_t *memory, size_t memory_len, struct sk_place place, uint32_t ticks);
+
+/* Who can reach whom: for each segment the mask of all segments from which a chain leads to it.
+ *
+ * A chain from s to t is one or more flow lines: the first goes out from s, each further one from the segment that the line before went into, and the last
+ * goes into t. It may have any length. A segment has its own bit only if a chain returns to it. With that bit added a mask is the set of segments which
+ * separation over whole runs begins equal (docs/POLICY.md, "Who can reach whom").
+ *
+ * Refused: 10. All masks are 0 then, and always those past the last segment. A segment that nobody reaches has 0 too: the number tells the two apart. */
+struct sk_reach_result sk_reach(struct sk_policy policy);
+
+/* Can segment `from` reach segment `to`? It always agrees with the report: yes is bit `from` of sources[to]. It stops at the first chain found.
+ * Refused: 10, and after it 15 if from or to isn't a segment. The answer is no then (0). */
+struct sk_answer sk_can_reach(struct sk_policy policy, uint32_t from, uint32_t to);
 
 #ifdef __cplusplus
 }

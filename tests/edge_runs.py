@@ -3,13 +3,15 @@
 
     edge_runs.py ROOT     writes crates/runs/data/scenarios and crates/runs/stdout below the repository ROOT
 
-scenarios.py has the form of both files; the expected answers come from machine_reference.py. edge_words.py has the calls that move four bytes at once.
+scenarios.py has the form of both files; the expected answers come from machine_reference.py and reach_reference.py. edge_words.py has the calls that move
+four bytes at once, edge_reach.py those that ask who can reach whom.
 """
 import os
 import sys
 
 from edge_parts import ADD, AND, BACK, HALT, JUMP, LISTEN, LOAD, SET, SHIFT, STORE, SUB, WAIT, XOR
 from edge_parts import BENCH, DEMO, FULL, HIGH, SAVE, SCENARIOS, SELF, SHARED, TOP, add, bench, code, policy, save
+from edge_reach import add_reach
 from edge_words import add_words
 from scenarios import write_all
 
@@ -280,6 +282,7 @@ for k in range(3):
     add("rounds-of-full-%d" % k, FULL, fill=k + 3).start().run(10000).run(5000).pend(k, k).run(1)
 
 add_words()
+add_reach()
 
 
 def main(root):

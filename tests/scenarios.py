@@ -1,11 +1,12 @@
 """A scenario for the test program crates/runs: a policy, a memory and steps; how it is written to the program's file, and what the program must
-write. The expected answers come from machine_reference.py.
+write. The expected answers come from machine_reference.py and reach_reference.py.
 
 In the file, a scenario is its name, filled up with spaces to 40 bytes, the memory's length in 10 digits, a space, the policy text's length in 10
 digits, a line end, and the text; then its steps. A step is a word, filled up with spaces to 8 bytes, and three numbers of 10 digits, parted by
 spaces, with a line end. The last step is `end`. Words differ in their first letter.
 """
 import machine_reference as machine
+from reach_reference import can_reach, reach
 
 # The fields of the policy record, by the numbers that `change` has for them.
 FIELDS = ["segments", "partitions", "slots", "base", "size", "code", "save", "owner", "ticks", "reads", "writes", "sources", "unused"]
@@ -63,6 +64,14 @@ class Scenario:
         """So many bytes of memory are shown."""
         return self.step("look", at, count)
 
+    def masks(self):
+        """The report on who can reach whom, of the present record."""
+        return self.step("masks")
+
+    def query(self, s, t):
+        """Whether segment s can reach segment t."""
+        return self.step("query", s, t)
+
     def encoded(self):
         out = [b"%s%010d %010d\n" % (self.name.encode().ljust(40), self.size, len(self.text)), self.text]
         for word, numbers, data in self.steps + [("end", [], b"")]:
@@ -96,6 +105,11 @@ class Scenario:
             elif word == "look":
                 at, count = numbers
                 out.append(("look %d %d" % (at, count), " ".join(str(b) for b in memory[at : at + count])))
+            elif word == "masks":
+                number, masks = reach(record)
+                out.append(("masks", number, " ".join(str(mask) for mask in masks)))
+            elif word == "query":
+                out.append(("query %d %d" % tuple(numbers), *can_reach(record, *numbers)))
         # All of memory, as one number of base 256, modulo the largest prime below 2 to the power 32.
         out.append(("end", int.from_bytes(memory, "big") % 4294967291))
         return "".join("\t".join([self.name] + [str(field) for field in line]) + "\n" for line in out).encode()

@@ -1,14 +1,16 @@
-/* Reads a policy (the demonstration, or the file named), starts, puts a program of three instructions into segment 0, pends a line, runs, and prints
- * what came of it.
+/* Reads a policy (the demonstration, or the file named), asks who can reach the last partition, starts, puts a program of three instructions into
+ * segment 0, pends a line, runs, and prints what came of it.
  *
  *     cc -std=c11 -Iinclude examples/c/example.c target/staticlib/libboundary.a -o example */
 #include "separation_kernel.h"
 
 #include <stdio.h>
+#include <stdlib.h>
 #include <string.h>
 
 _Static_assert(sizeof(struct sk_policy) == 436, "the record has the layout that the library expects");
 _Static_assert(sizeof(struct sk_run_result) == 12, "so has the answer of a Run");
+_Static_assert(sizeof(struct sk_reach_result) == 132, "and the report on who can reach whom");
 
 static const char demonstration[] =
     "segment\t0\t0\t64\nsegment\t1\t64\t44\nsegment\t2\t128\t64\nsegment\t3\t192\t44\nsegment\t4\t256\t16\n"
@@ -34,44 +36,48 @@ static void print_masks(const struct sk_policy *policy, unsigned partition)
 }
 
 /* The segments whose bit stands in a mask. */
-static void print_sources(const struct sk_policy *policy, unsigned segment)
+static void print_segments(const char *what, unsigned segment, uint32_t mask)
 {
-    printf("segments that flow into segment %u:", segment);
-    for (unsigned s = 0; s < policy->segments; s++)
-        if (policy->sources[segment] >> s & 1)
+    printf("segments that %s segment %u:", what, segment);
+    for (unsigned s = 0; s < 32; s++)
+        if (mask >> s & 1)
             printf(" %u", s);
     printf("\n");
 }
 
-int main(int count, char **words)
+/* The lines into a segment, the chains into it, and whether one of these begins at segment 0. */
+static void print_sources(struct sk_policy policy, unsigned segment)
 {
-    /* One byte more than a text may have, so that a longer file is refused as such. */
-    static uint8_t text[SK_TEXT_BYTES + 1];
-    size_t length = sizeof demonstration - 1;
+    struct sk_reach_result reach = sk_reach(policy);
+    struct sk_answer answer = sk_can_reach(policy, 0, segment);
 
-    memcpy(text, demonstration, length);
-    if (count > 1) {
-        FILE *file = fopen(words[1], "rb");
-        if (file == NULL) {
-            perror(words[1]);
-            return 2;
-        }
-        length = fread(text, 1, sizeof text, file);
-        fclose(file);
+    print_segments("flow into", segment, policy.sources[segment]);
+    print_segments("can reach", segment, reach.sources[segment]);
+    printf("can segment 0 reach segment %u: %u, %s\n", segment, (unsigned)answer.number, answer.yes ? "yes" : "no");
+}
+
+/* One byte more than a text may have, so that a longer file is refused as such. */
+static uint8_t text[SK_TEXT_BYTES + 1];
+
+/* The demonstration, or the file named, and its length; a file that can't be opened ends the program. */
+static size_t load(const char *name)
+{
+    if (name == NULL) {
+        memcpy(text, demonstration, sizeof demonstration - 1);
+        return sizeof demonstration - 1;
     }
-
-    struct sk_read_result read = sk_read(text, length);
-    if (read.number != SK_DONE) {
-        printf("policy refused: number %u, line %u\n", (unsigned)read.number, (unsigned)read.line);
-        return 1;
+    FILE *file = fopen(name, "rb");
+    if (file == NULL) {
+        perror(name);
+        exit(2);
     }
-    struct sk_policy policy = read.policy;
-    printf("policy accepted: %u partitions, %u segments, %u slots, sound %u\n", policy.partitions, policy.segments, policy.slots,
-           (unsigned)sk_sound(policy));
-    for (unsigned p = 0; p < policy.partitions; p++)
-        print_masks(&policy, p);
-    print_sources(&policy, policy.segments - 1u);
+    size_t length = fread(text, 1, sizeof text, file);
+    fclose(file);
+    return length;
+}
 
+static void run_program(struct sk_policy policy)
+{
     struct sk_run_result run = sk_start(policy, memory, sizeof memory);
     printf("start: %u\n", (unsigned)run.number);
 
@@ -91,5 +97,21 @@ int main(int count, char **words)
     run = sk_run(policy, memory, sizeof memory, run.place, 10000);
     printf("run 10000 ticks: %u, slot %u, used %u\n", (unsigned)run.number, (unsigned)run.place.slot, (unsigned)run.place.used);
     print_save(&policy, 0);
+}
+
+int main(int count, char **words)
+{
+    struct sk_read_result read = sk_read(text, load(count > 1 ? words[1] : NULL));
+    if (read.number != SK_DONE) {
+        printf("policy refused: number %u, line %u\n", (unsigned)read.number, (unsigned)read.line);
+        return 1;
+    }
+    struct sk_policy policy = read.policy;
+    printf("policy accepted: %u partitions, %u segments, %u slots, sound %u\n", policy.partitions, policy.segments, policy.slots,
+           (unsigned)sk_sound(policy));
+    for (unsigned p = 0; p < policy.partitions; p++)
+        print_masks(&policy, p);
+    print_sources(policy, policy.save[policy.partitions - 1]);
+    run_program(policy);
     return 0;
 }

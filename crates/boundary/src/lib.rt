@@ -11,7 +11,8 @@ ghost use Rattle.calls.specs.Outcomes.{outcomeNumber};
 ghost use Rattle.calls.specs.Start.{startAnswer, afterStart};
 ghost use Rattle.calls.specs.Pend.{pendOutcome, afterPend};
 ghost use Rattle.calls.specs.Run.{stateOf, runAnswer, afterRun};
-ghost use Rattle.boundary.specs.Results.{Tells, runResult};
+ghost use Rattle.reach.specs.Answers.{reachAnswer, canReachAnswer};
+ghost use Rattle.boundary.specs.Results.{Tells, runResult, reachResult, questionResult};
 use machine::Place;
 use policy::Policy;
 
@@ -28,6 +29,20 @@ pub struct ReadResult {
 pub struct RunResult {
     pub number: u32,
     pub place: Place,
+}
+
+// struct sk_reach_result
+#[repr(C)]
+pub struct ReachResult {
+    pub number: u32,
+    pub sources: [u32; 32],
+}
+
+// struct sk_answer
+#[repr(C)]
+pub struct QuestionResult {
+    pub number: u32,
+    pub yes: u32,
 }
 
 #[no_mangle]
@@ -84,5 +99,30 @@ pub extern "C" fn sk_run(policy: Policy, memory: &mut [u8], place: Place, ticks:
     RunResult {
         number: kernel::outcome_number(outcome),
         place: next,
+    }
+}
+
+#[no_mangle]
+pub extern "C" fn sk_reach(policy: Policy) -> ReachResult
+    ensures { λ r. ⌜ r ≡ reachResult (reachAnswer (underPolicy policy)) ⌝ }
+{
+    let report = reach::reach(policy);
+    let asked = report.asked;
+    let sources = report.rows;
+    ReachResult {
+        number: reach::asked_number(asked),
+        sources,
+    }
+}
+
+#[no_mangle]
+pub extern "C" fn sk_can_reach(policy: Policy, from: u32, to: u32) -> QuestionResult
+    ensures { λ r. ⌜ r ≡ questionResult (canReachAnswer (underPolicy policy) from to) ⌝ }
+{
+    let answer = reach::can_reach(policy, from, to);
+    let asked = answer.asked;
+    QuestionResult {
+        number: reach::asked_number(asked),
+        yes: if answer.yes { 1 } else { 0 },
     }
 }

@@ -4,6 +4,7 @@ use crate::file::show_verdict;
 use crate::program::try_lines;
 use crate::reading::check_policy;
 use script::field;
+use script::nth;
 use script::part;
 use script::past;
 use script::same;
@@ -16,6 +17,41 @@ fn is_report(text: &[u8], block: &[u8]) -> bool {
     let mut out = [0u8; 640];
     let n = io::count(checking::report_on(text, &mut out) as isize, &out);
     same(&out[..n], block)
+}
+
+// Whether a block is what policyreach writes of a text.
+fn is_reach_report(text: &[u8], block: &[u8]) -> bool {
+    let mut out = [0u8; 3424];
+    let n = io::count(reaching::report_on(text, &mut out) as isize, &out);
+    same(&out[..n], block)
+}
+
+// Whether a block is what policyreach answers to words about a text.
+fn is_answer(text: &[u8], words: &[u8], block: &[u8]) -> bool {
+    let mut out = [0u8; 3424];
+    let n = io::count(reaching::answer_on(text, words, &mut out) as isize, &out);
+    same(&out[..n], block)
+}
+
+// A reach block: the report, or after two words on the block's first line the answer to what they ask.
+fn is_reach(text: &[u8], header: &[u8], block: &[u8]) -> bool {
+    if same(header, b"```reach") {
+        return is_reach_report(text, block);
+    }
+    let from = word(header, 1);
+    let to = word(header, 2);
+    if 16 < from.len() {
+        return false;
+    }
+    if 16 < to.len() {
+        return false;
+    }
+    if nth(header, 3, b' ') != header.len() {
+        return false;
+    }
+    let mut words = [0u8; 34];
+    let n = io::count(reaching::put_words(&mut words, from, to) as isize, &words);
+    is_answer(text, &words[..n], block)
 }
 
 // A policy block. The last one that is accepted is what the lines after it are about.
@@ -44,6 +80,10 @@ pub(crate) fn on_block(text: &[u8], to: usize, closed: bool, seen: Seen) -> Seen
     }
     if closed & same(header, b"```report") {
         show_verdict(is_report(base, part(text, from, to)), seen.line);
+        return seen;
+    }
+    if closed & same(first, b"```reach") {
+        show_verdict(is_reach(base, header, part(text, from, to)), seen.line);
         return seen;
     }
     if closed & (same(header, b"```lines") | same(header, b"```program")) {

@@ -1,10 +1,11 @@
 -- Laws of the definitions, one subject a file; rule 8 by target; what a sound record gives; that an accepted text's record passes the test;
--- what decimal texts give; what rule 16 changes.
+-- what every answer of reading has; what decimal texts give; what rule 16 changes.
 pub mod Laws
 pub mod ByTarget
 pub mod Entries
 pub mod Lawful
 pub mod Kept
 pub mod Accepted
+pub mod Readings
 pub mod DecimalTexts
 pub mod Fewer

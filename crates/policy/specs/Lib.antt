@@ -20,6 +20,8 @@ pub mod First
 pub mod Refusals
 pub mod Read
 pub mod Record
+-- The number of each answer to a question about a policy.
+pub mod Asked
 -- Which records are sound, the test that decides it, what it gives, and what a save segment's sources are; what rule 16 changes.
 pub mod Sound
 pub mod Lawful

@@ -48,3 +48,10 @@ pub struct Reading {
     pub refusal: Refusal,
     pub policy: Policy,
 }
+
+// What a question about a policy answers: that it was answered, or why it was refused.
+pub enum Asked {
+    Answered,
+    Unsound,
+    NoSegment,
+}

@@ -1,4 +1,2 @@
-pub mod Written
-pub mod Digits
 pub mod Masks
 pub mod Rows

@@ -4,8 +4,7 @@ use mathlib.Core.Bool.{cond}
 use mathlib.Core.List.{List, [], _∷_, _++_}
 use Rattle.bits.specs.Masks.{maskOf}
 use Rattle.text.specs.Bytes.{bytesOf}
-use Rattle.text.specs.Cut.{tab, lineEnd}
-use Rattle.printer.specs.Decimal.{digits}
+use Rattle.writing.specs.Row.{numbers}
 use Rattle.policy.specs.declared.record.Refusal.{Refusal}
 use Rattle.policy.specs.Limits.{Limits}
 use Rattle.policy.specs.View.{View}
@@ -14,11 +13,6 @@ use Rattle.policy.specs.Schedule.{roundTicks}
 use Rattle.policy.specs.Tables.{viewOf}
 use Rattle.policy.specs.Refusals.{numberOf, lineNumberOf, isAccepted}
 use Rattle.policy.specs.Read.{Answer, readOf}
-
--- The numbers of a line, each after a tab, and the line's end.
-abbrev pub numbers : List ℕ → List ℕ
-numbers [] = lineEnd ∷ []
-numbers (n ∷ ns) = tab ∷ digits n ++ numbers ns
 
 -- "the masks of partitions p with the segment in R(p) and in W(p), bit p worth 2 to the power p"
 abbrev pub readMask : View → ℕ → ℕ

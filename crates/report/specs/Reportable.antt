@@ -1,6 +1,5 @@
 -- Which answers of reading a text the report has room for: those within the limits.
 use Prim.Native.Nat.{ℕ, _≤_, _<_}
-use mathlib.Core.List.{List, [], _∷_}
 use Rattle.policy.specs.Limits.{single, mostTicks}
 use Rattle.policy.specs.View.{View}
 use Rattle.policy.specs.Tables.{viewOf}
@@ -13,11 +12,6 @@ pub record Countable (v : View) : Type 0 where
   pub few-partitions : v .partitions ≤ single .partitions
   pub few-slots : v .slots ≤ single .slots
   pub ticks-most : (i : ℕ) → i < v .slots → v .ticks i ≤ mostTicks
-
--- Numbers of at most five digits.
-abbrev pub Short : List ℕ → Type 0
-Short [] = Unit {0}
-Short (n ∷ ns) = (n < 100000) × Short ns
 
 pub record Reportable (a : Answer) : Type 0 where
   pub counts : Countable (viewOf (a .tables))

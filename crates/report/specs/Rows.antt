@@ -2,7 +2,7 @@
 use Prim.Native.Nat.{ℕ, zero, suc}
 use mathlib.Core.List.{List, [], _∷_, _++_}
 use Rattle.text.specs.Bytes.{bytesOf}
-use Rattle.report.specs.Report.{numbers}
+use Rattle.writing.specs.Row.{numbers}
 use Rattle.report.specs.Masks.{maskIn}
 
 abbrev pub segmentWith : ℕ → ℕ → ℕ → List ℕ

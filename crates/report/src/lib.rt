@@ -1,6 +1,6 @@
 // The report that policycheck writes.
 mod masks;
-mod put;
 mod write;
 
+pub use write::put_refused;
 pub use write::write_report;

@@ -1,22 +1,25 @@
 // The whole report: of an accepted text its first row and a row for each segment, of a refused text one row.
 use crate::masks::masks_of;
-use crate::put::put_row;
 use bits::widen;
+use linerules::is_accepted;
 use linerules::line_number_of;
 use linerules::number_of;
 use policy::Policy;
 use policy::Reading;
+use policy::Refusal;
 use schedule::round_ticks;
+use writing::put_row;
 ghost use mathlib.Core.Path.{_≡_};
-ghost use Prim.Native.Nat.{_≤_};
+ghost use Prim.Native.Nat.{_≤_, _<_};
 ghost use lib.ListN.{length};
 ghost use lib.Seq.{sets};
 ghost use Rattle.policy.specs.Tables.{viewOf};
+ghost use Rattle.policy.specs.Refusals.{lineNumberOf};
 ghost use Rattle.policy.specs.Record.{tablesOf, answerOf};
-ghost use Rattle.report.specs.Report.{acceptedRow, segmentRows, reportOfReading};
+ghost use Rattle.report.specs.Report.{acceptedRow, segmentRows, refusedRow, reportOfReading};
 ghost use Rattle.report.specs.Reportable.{Countable, Reportable};
 ghost use Rattle.report.specs.Rows.{rowsIn};
-ghost use Rattle.report.specs.Written.{Written};
+ghost use Rattle.writing.specs.Written.{Written};
 
 // At most 23 bytes.
 fn put_accepted(policy: Policy, out: &mut [u8; 640]) -> usize
@@ -86,6 +89,15 @@ fn put_segments(policy: Policy, out: &mut [u8; 640], at: usize) -> usize
     )
 }
 
+// At most 17 bytes.
+pub fn put_refused(refusal: Refusal, out: &mut [u8]) -> usize
+    requires { ⌜ (lineNumberOf refusal < 100000) × (17 ≤ length (now out)) ⌝ }
+    ensures { λ r. ⌜ Written (now (out .entry)) 0 (refusedRow refusal) (now (out .exit)) r ⌝ }
+{
+    let row = [number_of(refusal), line_number_of(refusal)];
+    put_row(out, 0, b"refused", &row)
+}
+
 // The longest report has 23 + 32 * 19 = 631 bytes.
 pub fn write_report(reading: Reading, out: &mut [u8; 640]) -> usize
     requires { ⌜ Reportable (answerOf reading) ⌝ }
@@ -93,12 +105,10 @@ pub fn write_report(reading: Reading, out: &mut [u8; 640]) -> usize
         × (now (out .exit) ≡ sets (now (out .entry)) 0 (reportOfReading (answerOf reading))) ⌝ }
 {
     let refusal = reading.refusal;
-    let number = number_of(refusal);
-    if number == 0 {
+    if is_accepted(refusal) {
         let policy = reading.policy;
         let next = put_accepted(policy, out);
         return put_segments(policy, out, next);
     }
-    let row = [number, line_number_of(refusal)];
-    put_row(out, 0, b"refused", &row)
+    put_refused(refusal, out)
 }

@@ -1,11 +1,14 @@
 // Makes the calls of the file `scenarios` and writes what each answers, the bytes of memory that are asked for, and a
 // number of all of memory at the end of each scenario. tests/scenarios.py says what form the file has.
 mod memory;
+mod reaching;
 mod record;
 
 use crate::memory::fill;
 use crate::memory::look;
 use crate::memory::number_of;
+use crate::reaching::show_masks;
+use crate::reaching::show_reach;
 use crate::record::changed;
 use bytes::byte_at;
 use calls::Placed;
@@ -25,9 +28,9 @@ use script::word;
 
 // Names the call of a line with the numbers that it takes; any other step is not shown.
 fn show_call(name: &[u8], line: &[u8], call: u8) {
-    let both = (call == b'p') | (call == b'l');
+    let both = (call == b'p') | (call == b'l') | (call == b'q');
     let one = both | (call == b'r');
-    if one | (call == b's') | (call == b'e') {
+    if one | (call == b's') | (call == b'm') | (call == b'e') {
         show(name);
         show(b"\t");
         show(word(line, 0));
@@ -81,6 +84,14 @@ fn act(
         b'a' => Place { slot: x, used: y },
         b'p' => {
             show_answer(kernel::outcome_number(kernel::pend(policy, memory, x, y)));
+            place
+        }
+        b'm' => {
+            show_masks(policy);
+            place
+        }
+        b'q' => {
+            show_reach(policy, x, y);
             place
         }
         b'w' => {

@@ -1,10 +1,11 @@
 //! The proved kernel, linked from the static library through its C boundary; for the benchmark also an earlier one, whose functions have been renamed.
 
-use crate::boundary::{Kernel, Place, Policy, ReadResult, RunResult};
+use crate::boundary::{Answer, Kernel, Place, Policy, ReachResult, ReadResult, RunResult};
 
-/// A kernel behind the functions of a static library, which have this prefix.
+/// A kernel behind the functions of a static library, which have this prefix. Where the condition does not hold, the library is an earlier one without
+/// sk_reach and sk_can_reach: they answer a number that no kernel has.
 macro_rules! linked {
-    ($kernel:ident, $name:literal, $library:literal, $prefix:literal) => {
+    ($kernel:ident, $name:literal, $library:literal, $prefix:literal, $reaches:meta) => {
         pub struct $kernel;
 
         const _: () = {
@@ -21,6 +22,12 @@ macro_rules! linked {
                 fn sk_pend(policy: Policy, memory: *mut u8, memory_len: usize, partition: u32, line: u32) -> u32;
                 #[link_name = concat!($prefix, "sk_run")]
                 fn sk_run(policy: Policy, memory: *mut u8, memory_len: usize, place: Place, ticks: u32) -> RunResult;
+                #[cfg($reaches)]
+                #[link_name = concat!($prefix, "sk_reach")]
+                fn sk_reach(policy: Policy) -> ReachResult;
+                #[cfg($reaches)]
+                #[link_name = concat!($prefix, "sk_can_reach")]
+                fn sk_can_reach(policy: Policy, from: u32, to: u32) -> Answer;
             }
 
             // Named here so that a new library is linked anew.
@@ -46,12 +53,28 @@ macro_rules! linked {
                 fn run(&self, policy: &Policy, memory: &mut [u8], place: Place, ticks: u32) -> RunResult {
                     unsafe { sk_run(*policy, memory.as_mut_ptr(), memory.len(), place, ticks) }
                 }
+                #[cfg($reaches)]
+                fn reach(&self, policy: &Policy) -> ReachResult {
+                    unsafe { sk_reach(*policy) }
+                }
+                #[cfg($reaches)]
+                fn can_reach(&self, policy: &Policy, from: u32, to: u32) -> Answer {
+                    unsafe { sk_can_reach(*policy, from, to) }
+                }
+                #[cfg(not($reaches))]
+                fn reach(&self, _: &Policy) -> ReachResult {
+                    ReachResult::refused(u32::MAX)
+                }
+                #[cfg(not($reaches))]
+                fn can_reach(&self, _: &Policy, _: u32, _: u32) -> Answer {
+                    Answer::refused(u32::MAX)
+                }
             }
         };
     };
 }
 
-linked!(Archive, "archive", "boundary", "");
+linked!(Archive, "archive", "boundary", "", all());
 
 #[cfg(feature = "before")]
-linked!(Before, "before", "before", "before_");
+linked!(Before, "before", "before", "before_", feature = "before-reaches");

@@ -1,4 +1,4 @@
-//! The types of the C boundary, and the five operations as a trait that each implementation meets.
+//! The types of the C boundary, and its operations as a trait that each implementation meets.
 
 /// "Memory is 16,384 bytes."
 pub const MEMORY: usize = 16_384;
@@ -120,6 +120,34 @@ pub struct RunResult {
     pub place: Place,
 }
 
+/// Who can reach whom: of each segment t bit s, a chain of one or more flow lines leads from s to t.
+#[repr(C)]
+#[derive(Clone, Copy, PartialEq, Eq, Debug)]
+pub struct ReachResult {
+    pub number: u32,
+    pub sources: [u32; 32],
+}
+
+impl ReachResult {
+    pub const fn refused(number: u32) -> ReachResult {
+        ReachResult { number, sources: [0; 32] }
+    }
+}
+
+/// Yes is 1, no 0.
+#[repr(C)]
+#[derive(Clone, Copy, PartialEq, Eq, Debug)]
+pub struct Answer {
+    pub number: u32,
+    pub yes: u32,
+}
+
+impl Answer {
+    pub const fn refused(number: u32) -> Answer {
+        Answer { number, yes: 0 }
+    }
+}
+
 /// What the C boundary offers.
 pub trait Kernel {
     fn name(&self) -> &'static str;
@@ -129,4 +157,6 @@ pub trait Kernel {
     fn start(&self, policy: &Policy, memory: &mut [u8]) -> RunResult;
     fn pend(&self, policy: &Policy, memory: &mut [u8], partition: u32, line: u32) -> u32;
     fn run(&self, policy: &Policy, memory: &mut [u8], place: Place, ticks: u32) -> RunResult;
+    fn reach(&self, policy: &Policy) -> ReachResult;
+    fn can_reach(&self, policy: &Policy, from: u32, to: u32) -> Answer;
 }

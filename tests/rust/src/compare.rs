@@ -1,5 +1,9 @@
 //! Holds a kernel to the reference, and counts what the generated inputs have reached.
 
+mod reach;
+
+pub use reach::{reach_difference, Wanted, PAST, REACH_CASES};
+
 use crate::boundary::{Kernel, Place, Policy, MEMORY};
 use crate::generate::lists::{Call, List, Step};
 use crate::reference::bytes::{self, Bytes};

@@ -1,6 +1,8 @@
-//! Random policies, texts, records, programs, memories and call lists. The same seed gives the same ones.
+//! Random policies, graphs of flows, texts, records, programs, memories, call lists and arguments. The same seed gives the same ones.
 
+pub mod arguments;
 mod flows;
+pub mod graphs;
 pub mod lists;
 pub mod memories;
 pub mod mutations;

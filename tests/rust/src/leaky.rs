@@ -1,6 +1,7 @@
 //! Kernels that leak on purpose, one way each: the test of separation has to catch every one of them.
 
-use crate::boundary::{Kernel, Place, Policy, ReadResult, RunResult, MEMORY};
+use crate::as_reference;
+use crate::boundary::{Kernel, Place, Policy, RunResult, MEMORY};
 use crate::reference::{self, next_place, tick, Event, COUNTER, STATE};
 
 #[derive(Clone, Copy, PartialEq, Eq, Debug)]
@@ -152,14 +153,9 @@ impl Kernel for Leaky {
     fn name(&self) -> &'static str {
         "leaky"
     }
-    fn read(&self, text: &[u8]) -> ReadResult {
-        reference::read(text)
-    }
+    as_reference!(read, start, reach, can_reach);
     fn sound(&self, policy: &Policy) -> u32 {
         (self.0 == Leak::RuleEightWithoutSave || reference::sound(policy)) as u32
-    }
-    fn start(&self, policy: &Policy, memory: &mut [u8]) -> RunResult {
-        reference::start(policy, memory)
     }
     fn pend(&self, policy: &Policy, memory: &mut [u8], partition: u32, line: u32) -> u32 {
         if memory.len() != MEMORY || self.sound(policy) == 0 || partition >= u32::from(policy.partitions) || line > 7 {

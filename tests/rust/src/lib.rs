@@ -7,6 +7,7 @@ pub mod boundary;
 pub mod compare;
 pub mod generate;
 pub mod leaky;
+pub mod misled;
 pub mod pairs;
 pub mod random;
 pub mod reference;

@@ -5,17 +5,68 @@ pub mod bytes;
 mod calls;
 mod line;
 mod machine;
+mod reach;
 mod reader;
 mod record;
 mod report;
 
 pub use calls::{pend, run, run_watched, start};
 pub use machine::{next_place, tick, Event, COUNTER, ENABLED, FAULT, HANDLER, IN_HANDLER, OPCODES, PENDED, RETURN, SAVE, STATE, UNUSED};
+pub use reach::{answer, can_reach, reach};
 pub use reader::{judge, judge_without_16, read, Refusal};
 pub use record::{asked, print, readable, sound, sources, writable, Lines};
-pub use report::report;
+pub use report::{policyreach, report, USAGE};
 
-use crate::boundary::{Kernel, Place, Policy, ReadResult, RunResult};
+use crate::boundary::Kernel;
+
+/// Calls of a kernel that answer as the reference does: for this one all, for a wrong one those that it is right in.
+#[macro_export]
+macro_rules! as_reference {
+    (read) => {
+        fn read(&self, text: &[u8]) -> $crate::boundary::ReadResult {
+            $crate::reference::read(text)
+        }
+    };
+    (sound) => {
+        fn sound(&self, policy: &$crate::boundary::Policy) -> u32 {
+            $crate::reference::sound(policy) as u32
+        }
+    };
+    (start) => {
+        fn start(&self, policy: &$crate::boundary::Policy, memory: &mut [u8]) -> $crate::boundary::RunResult {
+            $crate::reference::start(policy, memory)
+        }
+    };
+    (pend) => {
+        fn pend(&self, policy: &$crate::boundary::Policy, memory: &mut [u8], partition: u32, line: u32) -> u32 {
+            $crate::reference::pend(policy, memory, partition, line)
+        }
+    };
+    (run) => {
+        fn run(
+            &self,
+            policy: &$crate::boundary::Policy,
+            memory: &mut [u8],
+            place: $crate::boundary::Place,
+            ticks: u32,
+        ) -> $crate::boundary::RunResult {
+            $crate::reference::run(policy, memory, place, ticks)
+        }
+    };
+    (reach) => {
+        fn reach(&self, policy: &$crate::boundary::Policy) -> $crate::boundary::ReachResult {
+            $crate::reference::reach(policy)
+        }
+    };
+    (can_reach) => {
+        fn can_reach(&self, policy: &$crate::boundary::Policy, from: u32, to: u32) -> $crate::boundary::Answer {
+            $crate::reference::can_reach(policy, from, to)
+        }
+    };
+    ($($call:ident),+) => {
+        $($crate::as_reference!($call);)+
+    };
+}
 
 pub struct Reference;
 
@@ -23,19 +74,5 @@ impl Kernel for Reference {
     fn name(&self) -> &'static str {
         "reference"
     }
-    fn read(&self, text: &[u8]) -> ReadResult {
-        read(text)
-    }
-    fn sound(&self, policy: &Policy) -> u32 {
-        sound(policy) as u32
-    }
-    fn start(&self, policy: &Policy, memory: &mut [u8]) -> RunResult {
-        start(policy, memory)
-    }
-    fn pend(&self, policy: &Policy, memory: &mut [u8], partition: u32, line: u32) -> u32 {
-        pend(policy, memory, partition, line)
-    }
-    fn run(&self, policy: &Policy, memory: &mut [u8], place: Place, ticks: u32) -> RunResult {
-        run(policy, memory, place, ticks)
-    }
+    as_reference!(read, sound, start, pend, run, reach, can_reach);
 }

@@ -1,8 +1,8 @@
 //! Makes a failing input shorter as long as it still fails (delta debugging).
 
-use crate::boundary::MEMORY;
+use crate::boundary::{Policy, MEMORY};
 use crate::generate::lists::{Call, List};
-use crate::reference::judge;
+use crate::reference::{judge, print};
 
 /// Drops parts of a list, large ones first, while the rest still fails.
 pub fn shrink<T: Clone>(items: &[T], fails: &mut dyn FnMut(&[T]) -> bool) -> Vec<T> {
@@ -40,6 +40,18 @@ pub fn shrink_text(text: &[u8], fails: &mut dyn FnMut(&[u8]) -> bool) -> Vec<u8>
     shrink(&text, &mut |bytes| fails(bytes))
 }
 
+/// A record: the lines of its text, as long as what is left is accepted.
+pub fn shrink_policy(policy: &Policy, fails: &mut dyn FnMut(&Policy) -> bool) -> Policy {
+    let Some(text) = print(policy) else { return *policy };
+    let lines: Vec<&str> = text.split_inclusive('\n').collect();
+    let mut with = |lines: &[&str]| {
+        let record = judge(lines.concat().as_bytes()).ok()?.record();
+        fails(&record).then_some(record)
+    };
+    let lines = shrink(&lines, &mut |lines| with(lines).is_some());
+    with(&lines).unwrap_or(*policy)
+}
+
 /// A list: calls first, then the ticks of its Runs, its policy's lines, and the bytes of its memory.
 pub fn shrink_list(list: &List, fails: &mut dyn FnMut(&List) -> bool) -> List {
     let mut list = list.clone();
@@ -55,18 +67,8 @@ pub fn shrink_list(list: &List, fails: &mut dyn FnMut(&List) -> bool) -> List {
             list.steps[at].call = Call::Run { ticks, from };
         }
     }
-    if let Some(text) = crate::reference::print(&list.policies[0]) {
-        let lines: Vec<&str> = text.split_inclusive('\n').collect();
-        let mut with = |lines: &[&str]| -> Option<List> {
-            let mut other = list.clone();
-            other.policies[0] = judge(lines.concat().as_bytes()).ok()?.record();
-            fails(&other).then_some(other)
-        };
-        let lines = shrink(&lines, &mut |lines| with(lines).is_some());
-        if let Some(shorter) = with(&lines) {
-            list = shorter;
-        }
-    }
+    let policy = list.policies[0];
+    list.policies[0] = shrink_policy(&policy, &mut |policy| fails(&List { policies: [*policy, list.policies[1]], ..list.clone() }));
     let mut part = 4_096;
     while part > 0 {
         for at in (0..MEMORY).step_by(part) {

@@ -1,13 +1,15 @@
 //! The same operations, tuned: the measure for the benchmark. Safe Rust, the policy by reference, its masks read as such, and one tick at a time on the
 //! bytes in memory; an idle slot is left at once.
 
+mod reach;
 mod reader;
 mod record;
 
+pub use reach::{can_reach, reach};
 pub use reader::read;
 pub use record::sound;
 
-use crate::boundary::{Kernel, Place, Policy, ReadResult, RunResult, MEMORY};
+use crate::boundary::{Answer, Kernel, Place, Policy, ReachResult, ReadResult, RunResult, MEMORY};
 
 pub struct Tuned;
 
@@ -29,6 +31,12 @@ impl Kernel for Tuned {
     }
     fn run(&self, policy: &Policy, memory: &mut [u8], place: Place, ticks: u32) -> RunResult {
         run(policy, memory, place, ticks)
+    }
+    fn reach(&self, policy: &Policy) -> ReachResult {
+        reach(policy)
+    }
+    fn can_reach(&self, policy: &Policy, from: u32, to: u32) -> Answer {
+        can_reach(policy, from, to)
     }
 }
 

@@ -1,6 +1,6 @@
 //! The cases of the scope document and of the change requests, on the reference and on each kernel.
 
-use separation::boundary::{Kernel, Place, Policy, ReadResult, RunResult, MEMORY, RECORD};
+use separation::boundary::{Answer, Kernel, Place, Policy, ReachResult, ReadResult, RunResult, MEMORY, RECORD};
 use separation::compare::text_difference;
 use separation::generate::mutations::{join, split};
 use separation::generate::numbers::{is_place, rewrite};
@@ -29,6 +29,8 @@ fn types_have_the_layout_of_c() {
     assert_eq!(std::mem::size_of::<Policy>(), RECORD);
     assert_eq!(std::mem::size_of::<ReadResult>(), 444);
     assert_eq!(std::mem::size_of::<RunResult>(), 12);
+    assert_eq!((std::mem::size_of::<ReachResult>(), offset_of!(ReachResult, sources)), (132, 4));
+    assert_eq!((std::mem::size_of::<Answer>(), offset_of!(Answer, yes)), (8, 4));
     // Each entry begins where the one before ends.
     let entries = [
         (offset_of!(Policy, segments), 1),

@@ -12,7 +12,7 @@ use separation::leaky::{Leaky, LEAKS};
 use separation::pairs::{bytes_of, check, explain, run_pair, tick_pair};
 use separation::random::Random;
 use separation::reference::{self, judge, judge_without_16, readable, sound, sources, tick, writable, Event, Reference, COUNTER, ENABLED};
-use separation::{accepted, refused, show, shrink};
+use separation::{accepted, as_reference, refused, show, shrink};
 
 #[test]
 fn generated_policies_are_sound() {
@@ -40,15 +40,7 @@ impl Kernel for Wrong {
         }
         answer
     }
-    fn sound(&self, policy: &Policy) -> u32 {
-        reference::sound(policy) as u32
-    }
-    fn start(&self, policy: &Policy, memory: &mut [u8]) -> RunResult {
-        reference::start(policy, memory)
-    }
-    fn pend(&self, policy: &Policy, memory: &mut [u8], partition: u32, line: u32) -> u32 {
-        reference::pend(policy, memory, partition, line)
-    }
+    as_reference!(sound, start, pend, reach, can_reach);
     fn run(&self, policy: &Policy, memory: &mut [u8], place: Place, ticks: u32) -> RunResult {
         let enabled: Vec<usize> = (0..8).map(|p| policy.base[policy.save[p] as usize % 32] as usize + ENABLED).collect();
         let before: Vec<u8> = enabled.iter().map(|&at| memory.get(at).copied().unwrap_or(0)).collect();
@@ -131,6 +123,7 @@ impl Kernel for Sources {
     fn name(&self) -> &'static str {
         "wrong sources"
     }
+    as_reference!(reach, can_reach);
     fn read(&self, text: &[u8]) -> ReadResult {
         match (judge(text), judge_without_16(text)) {
             (Err(refusal), _) if *self == Sources::BeforeEight && refusal.also.contains(&16) => refused(16, 0),

@@ -2,14 +2,14 @@
 use Prim.Native.Nat.{ℕ, zero, suc, _+_, _-_, _*_, _/_, _%_, _^_, _<_, _≤_, min, max}
 use mathlib.Core.Path.{_≡_, refl, sym, _∙_, ap}
 use mathlib.Core.Bool.{Bool, true, false, cond, _&&_, _||_, not, and-false, or-true, or-false, true≢false}
-use native.Mathlib.Nat.{div-one, pow-suc, mod-lt, div-eq-of-lt, mod-eq-of-lt, lt-of-lt-of-le, lt-of-le-of-lt, zero-mul, one-mul}
+use native.Mathlib.Nat.{div-one, pow-suc, mod-lt, div-eq-of-lt, lt-of-lt-of-le, lt-of-le-of-lt, zero-mul, one-mul}
 use native.Mathlib.Omega.{arith}
 use native.Mathlib.Decide.{decLt, ℕ-discrete}
 use lib.Arith.{digits-mod}
-use lib.Bits.{bitAnd, bitOr, or-shr, and-shr, or-step, and-step, or-lt, or-shifted-r, and-le-l}
+use lib.Bits.{bitAnd, bitOr, bitXor, differ, or-shr, and-shr, xor-shr, or-step, and-step, xor-step, or-lt, or-shifted-r, or-add-and, and-le-l, and-le-r}
 use lib.Pow.{pow-lt, pow-mono, pow-add, mod-pow-add, pow-pos, shl-shr, shr-shr}
 use lib.Dec.{eqb, ltb}
-use borrow.Author.Tests.{eq-eqb, ne-eqb, lt-ltb, le-ltb, eqb-true}
+use borrow.Author.Tests.{eq-eqb, ne-eqb, lt-ltb, le-ltb}
 use Rattle.bits.specs.Masks.{has, withBit, maskOf}
 
 -- What holds of the two digits holds of each.
@@ -32,11 +32,22 @@ min-digit x y hx hy =
     (digit-cases (λ y. eqb (min 1 y) 1 ≡ eqb 1 1 && eqb y 1) refl refl y hy)
     x hx
 
+differ-digit : (x y : ℕ) → x < 2 → y < 2 → eqb (differ x y) 1 ≡ cond (eqb x 1) (not (eqb y 1)) (eqb y 1)
+differ-digit x y hx hy =
+    digit-cases (λ x. eqb (differ x y) 1 ≡ cond (eqb x 1) (not (eqb y 1)) (eqb y 1))
+    refl
+    (digit-cases (λ y. eqb (differ 1 y) 1 ≡ not (eqb y 1)) refl refl y hy)
+    x hx
+
 max-under : (x y : ℕ) → x < 2 → y < 2 → max x y < 2
 max-under x y hx hy = omega arith
 
 min-under : (x y : ℕ) → x < 2 → y < 2 → min x y < 2
 min-under x y hx hy = omega arith
+
+differ-under : (x y : ℕ) → x < 2 → y < 2 → differ x y < 2
+differ-under x y hx hy =
+    digit-cases (λ x. differ x y < 2) hy (digit-cases (λ y. differ 1 y < 2) (omega arith) (omega arith) y hy) x hx
 
 or-odd : (a b : ℕ) → bitOr a b % 2 ≡ max (a % 2) (b % 2)
 or-odd a b =
@@ -47,6 +58,11 @@ and-odd : (a b : ℕ) → bitAnd a b % 2 ≡ min (a % 2) (b % 2)
 and-odd a b =
     ap (λ (n : ℕ). n % 2) (and-step a b)
     ∙ digits-mod (bitAnd (a / 2) (b / 2)) (min-under (a % 2) (b % 2) (mod-lt a (omega arith)) (mod-lt b (omega arith)))
+
+xor-odd : (a b : ℕ) → bitXor a b % 2 ≡ differ (a % 2) (b % 2)
+xor-odd a b =
+    ap (λ (n : ℕ). n % 2) (xor-step a b)
+    ∙ digits-mod (bitXor (a / 2) (b / 2)) (differ-under (a % 2) (b % 2) (mod-lt a (omega arith)) (mod-lt b (omega arith)))
 
 pub has-or : (a b s : ℕ) → has (bitOr a b) s ≡ has a s || has b s
 has-or a b s =
@@ -59,6 +75,12 @@ has-and a b s =
     ap (λ (n : ℕ). eqb (n % 2) 1) (and-shr a b s)
     ∙ ap (λ (n : ℕ). eqb n 1) (and-odd (a / 2 ^ s) (b / 2 ^ s))
     ∙ min-digit (a / 2 ^ s % 2) (b / 2 ^ s % 2) (mod-lt (a / 2 ^ s) (omega arith)) (mod-lt (b / 2 ^ s) (omega arith))
+
+pub has-xor : (a b s : ℕ) → has (bitXor a b) s ≡ cond (has a s) (not (has b s)) (has b s)
+has-xor a b s =
+    ap (λ (n : ℕ). eqb (n % 2) 1) (xor-shr a b s)
+    ∙ ap (λ (n : ℕ). eqb n 1) (xor-odd (a / 2 ^ s) (b / 2 ^ s))
+    ∙ differ-digit (a / 2 ^ s % 2) (b / 2 ^ s % 2) (mod-lt (a / 2 ^ s) (omega arith)) (mod-lt (b / 2 ^ s) (omega arith))
 
 -- A mask has no bit from its width on.
 pub has-past : (n a s : ℕ) → a < 2 ^ n → n ≤ s → has a s ≡ false
@@ -90,10 +112,10 @@ has-with m s u = has-or m (2 ^ s) u ∙ ap (λ (b : Bool). has m u || b) (has-on
 pub with-under : (n m s : ℕ) → m < 2 ^ n → s < n → withBit m s < 2 ^ n
 with-under n m s h l = or-lt n m (2 ^ s) h (pow-lt l)
 
-half-has : (a s : ℕ) → has a (suc s) ≡ has (a / 2) s
+pub half-has : (a s : ℕ) → has a (suc s) ≡ has (a / 2) s
 half-has a s = let q : suc s ≡ 1 + s = omega arith in rw q (ap (λ (n : ℕ). eqb (n % 2) 1) (sym (shr-shr a 1 s)))
 
-zero-has : (a : ℕ) → eqb (a % 2) 1 ≡ has a 0
+pub zero-has : (a : ℕ) → eqb (a % 2) 1 ≡ has a 0
 zero-has a = ap (λ (n : ℕ). eqb (n % 2) 1) (sym (div-one a))
 
 -- A mask moved down by s has at 0 the bit that was at s.
@@ -120,6 +142,20 @@ masks-same (suc n) a b ha hb h =
     digit-tells (a % 2) (b % 2) (mod-lt a (omega arith)) (mod-lt b (omega arith))
     (zero-has a ∙ h 0 (omega arith) ∙ sym (zero-has b)) in
     omega (arith, high, first)
+
+-- A bit more makes a mask larger.
+pub with-more : (m s : ℕ) → has m s ≡ false → m < withBit m s
+with-more m s e = omega (arith, none, or-add-and m (2 ^ s), pow-pos s)
+  where
+    at : (u : ℕ) → Dec (u ≡ s) → has (bitAnd m (2 ^ s)) u ≡ false
+    at u (yes q) = has-and m (2 ^ s) u ∙ rw (q, e)
+    at u (no q) = has-and m (2 ^ s) u ∙ rw (has-one s u, ne-eqb u s q, and-false)
+
+    none : bitAnd m (2 ^ s) ≡ 0
+    none =
+        masks-same (suc s) (bitAnd m (2 ^ s)) 0
+        (lt-of-le-of-lt (and-le-r m (2 ^ s)) (pow-lt {i = s} {j = suc s} (omega arith)))
+        (pow-pos (suc s)) (λ u l. at u (ℕ-discrete u s) ∙ sym (has-none u))
 
 pub mask-under : (f : ℕ → Bool) (n : ℕ) → maskOf n f < 2 ^ n
 unfolding maskOf

@@ -1,12 +1,13 @@
 -- A mask of n bits is the mask of the test that its bits make: masks of one width that agree on every bit are equal.
 use Prim.Native.Nat.{ℕ, zero, suc, _+_, _^_, _<_, _≤_}
 use mathlib.Core.Path.{_≡_, refl, sym, _∙_}
-use mathlib.Core.Bool.{Bool, true}
-use native.Mathlib.Nat.{pow-suc}
+use mathlib.Core.Bool.{Bool, true, false, _&&_}
+use native.Mathlib.Nat.{pow-suc, lt-of-lt-of-le}
 use native.Mathlib.Omega.{arith}
-use lib.Pow.{pow-lt, pow-pos}
-use lib.Dec.{eqb}
-use borrow.Author.Tests.{lt-ltb, ne-eqb}
+use native.Mathlib.Decide.{decLt}
+use lib.Pow.{pow-lt, pow-mono, pow-pos}
+use lib.Dec.{eqb, ltb}
+use borrow.Author.Tests.{lt-ltb, le-ltb, ne-eqb}
 use Rattle.bits.specs.Masks.{has, maskOf}
 use Rattle.bits.proofs.Laws.Masks.{has-mask, has-none, has-one, mask-under, masks-same}
 
@@ -26,3 +27,15 @@ pub all-is : (n : ℕ) → maskOf n (λ s. true) + 1 ≡ 2 ^ n
 unfolding maskOf
 all-is zero = refl
 all-is (suc n) = rw pow-suc (omega (arith, all-is n))
+
+-- A mask without the bits from n on has n bits.
+pub mask-cut : (w n m : ℕ) → n ≤ w → m < 2 ^ w → ((s : ℕ) → n ≤ s → has m s ≡ false) → m < 2 ^ n
+mask-cut w n m l h none =
+    let is : m ≡ maskOf n (has m) =
+    masks-same w m (maskOf n (has m)) h (lt-of-lt-of-le (mask-under (has m) n) (pow-mono l))
+    (λ s k. go s (decLt s n) ∙ sym (has-mask (has m) n s)) in
+    rw is (mask-under (has m) n)
+  where
+    go : (s : ℕ) → Dec (s < n) → has m s ≡ ltb s n && has m s
+    go s (yes l) = rw (lt-ltb s n l)
+    go s (no l) = none s (omega arith) ∙ rw (le-ltb s n (omega arith))

@@ -12,7 +12,7 @@ use Rattle.text.specs.declared.line.Line.the-variants.{Segment, Partition, Righ
 use Rattle.policy.specs.Limits.{Limits, longestSegment, saveSize, mostTicks}
 use Rattle.policy.specs.Modes.{modeIn}
 use Rattle.policy.specs.View.{View}
-use Rattle.policy.specs.Range.{outOfRange}
+use Rattle.policy.specs.Range.{noSegment, outOfRange}
 use Rattle.policy.specs.Clash.{clashes, overlaps, shares}
 use Rattle.policy.specs.Sound.{passes, firstSegments, firstPartitions, firstSlots, goodSegment, goodPartition, goodSlot, goodRight, goodFlow}
 use Rattle.policy.proofs.Laws.Bools.{and-left, and-right, or-left, or-right}
@@ -144,3 +144,11 @@ module _ (limits : Limits) (v : View) where
   flow-goes s t h one =
       eqb-false s t
       (passes-clear limits v (Flow s t) (or-rest (not (v .flow s t)) (passes limits v (Flow s t)) h (ap not one)))
+
+  -- A flow line stands between two segments.
+  pub flow-there : (s t : ℕ) → goodFlow limits v s t ≡ true → v .flow s t ≡ true → (s < v .segments) × (t < v .segments)
+  unfolding goodFlow outOfRange
+  flow-there s t h one =
+      let r : noSegment v s || noSegment v t ≡ false =
+      passes-ranged limits v (Flow s t) (or-rest (not (v .flow s t)) (passes limits v (Flow s t)) h (ap not one)) in
+      (leb-false (v .segments) s (search parts), leb-false (v .segments) t (search parts))

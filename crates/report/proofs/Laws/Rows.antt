@@ -1,28 +1,25 @@
 -- How long the rows are, by the widths of their numbers, and how the report is made of them.
 use Prim.Native.Nat.{ℕ, zero, suc, _+_, _*_, _<_, _≤_}
-use mathlib.Core.Path.{_≡_, refl, _∙_}
-use mathlib.Core.List.{List, _++_}
+use mathlib.Core.Path.{_≡_, refl}
+use mathlib.Core.List.{List}
 use native.Mathlib.Numerals.{add-one}
 use native.Mathlib.Omega.{arith}
-use borrow.Author.Tests.{eq-eqb, ne-eqb}
-use lib.Dec.{eqb}
 use lib.ListN.{length, length-append}
-use lib.Seq.{sets}
 use Rattle.policy.specs.declared.record.Refusal.{Refusal}
 use Rattle.policy.specs.declared.record.Refusal.the-variants.{Accepted, TooLong, Malformed, OutOfOrder, OutOfRange, Clash, Incomplete, CodeUnreadable, FlowMissing, StraySource}
 use Rattle.policy.specs.View.{View}
 use Rattle.policy.specs.Schedule.{roundTicks}
 use Rattle.policy.specs.Tables.{Tables, viewOf}
-use Rattle.policy.specs.Refusals.{numberOf, lineNumberOf, isAccepted}
+use Rattle.policy.specs.Refusals.{numberOf}
 use Rattle.schedule.proofs.Laws.Sums.{sum-most}
-use Rattle.report.specs.Report.{acceptedRow, segmentRow, segmentRows, refusedRow, reportWith}
+use Rattle.report.specs.Report.{acceptedRow, segmentRow, segmentRows}
 use Rattle.report.specs.Reportable.{Countable}
 use Rattle.report.specs.Rows.{segmentWith, rowsIn, refusedWith}
 use Rattle.report.specs.Masks.{maskIn}
-use Rattle.report.specs.Written.{Written}
-use Rattle.report.proofs.Laws.Digits.{digits-width}
+use Rattle.writing.specs.Written.{Written}
+use Rattle.writing.proofs.Laws.Digits.{digits-width}
 use Rattle.report.proofs.Laws.Masks.{mask-small}
-use Rattle.report.proofs.Laws.Written.{written-then}
+use Rattle.writing.proofs.Laws.Written.{written-then}
 
 pub round-small : (v : View) → Countable v → roundTicks v < 100000
 round-small v r = omega (arith, sum-most (v .ticks) (v .slots) (r .ticks-most))
@@ -88,29 +85,3 @@ number-small Incomplete = omega arith
 number-small CodeUnreadable = omega arith
 number-small FlowMissing = omega arith
 number-small StraySource = omega arith
-
-accepted-zero : (r : Refusal) → isAccepted r ≡ eqb (numberOf r) 0
-accepted-zero Accepted = refl
-accepted-zero TooLong = refl
-accepted-zero (Malformed line) = refl
-accepted-zero (OutOfOrder line) = refl
-accepted-zero (OutOfRange line) = refl
-accepted-zero (Clash line) = refl
-accepted-zero Incomplete = refl
-accepted-zero CodeUnreadable = refl
-accepted-zero FlowMissing = refl
-accepted-zero StraySource = refl
-
-module _ (refusal : Refusal) (v : View) where
-  pub report-accepted : numberOf refusal ≡ 0 → reportWith refusal v ≡ acceptedRow v ++ segmentRows v (v .segments)
-  unfolding reportWith
-  report-accepted e = rw (accepted-zero refusal, eq-eqb _ _ e)
-
-  pub report-refused : (number line : ℕ) → (number ≡ 0 → ⊥) → number ≡ numberOf refusal → line ≡ lineNumberOf refusal →
-      reportWith refusal v ≡ refusedWith number line
-  unfolding reportWith refusedRow
-  report-refused number line h a b =
-      rw (accepted-zero refusal, ne-eqb (numberOf refusal) 0 (λ e. h (a ∙ e)), ← a, ← b)
-
-pub report-written : {l m b : List ℕ} {r : ℕ} → Written l 0 b m r → (r ≡ length b) × (m ≡ sets l 0 b)
-report-written {l} {m} {b} {r} w = (omega arith, w .text)

@@ -1,15 +1,20 @@
-//! Compares each kernel with the reference on random texts, records and call lists. Exits with 1 at the first difference, after shortening it.
+//! Compares each kernel with the reference on random texts, records, graphs of flows and call lists, and the programs with what the reference writes.
+//! Exits with 1 at the first difference, after shortening it.
 //!
-//!     differential [--seed N] [--texts N] [--records N] [--lists N] [--policycheck PATH] [--reports N]
+//!     differential [--seed N] [--texts N] [--records N] [--graphs N] [--lists N] [--policycheck PATH] [--policyreach PATH] [--reports N]
 
 use separation::boundary::{Kernel, Policy, RECORD};
-use separation::compare::{bytes_sound, list_difference, record_difference, text_difference, text_gives, Reached, LIST_CASES, TEXT_CASES};
+use separation::compare::{bytes_sound, list_difference, reach_difference, record_difference, text_difference, text_gives};
+use separation::compare::{Reached, Wanted, LIST_CASES, REACH_CASES, TEXT_CASES};
+use separation::generate::arguments::arguments;
 use separation::generate::policies::{full_in_hexadecimal, longest, policy, Shape, DEMONSTRATION};
-use separation::generate::{lists, records, texts};
+use separation::generate::{graphs, lists, numbers, records, texts};
 use separation::random::Random;
-use separation::reference::{report, sound};
+use separation::reference::{policyreach, report, sound, USAGE};
 use separation::{kernels, show, shrink};
-use std::io::Write;
+use std::ffi::OsStr;
+use std::io::{Read, Write};
+use std::os::unix::ffi::OsStrExt;
 use std::process::{Command, Stdio};
 use std::time::Instant;
 
@@ -17,13 +22,16 @@ struct Options {
     seed: u64,
     texts: usize,
     records: usize,
+    graphs: usize,
     lists: usize,
     policycheck: Option<String>,
+    policyreach: Option<String>,
     reports: usize,
 }
 
 fn options() -> Options {
-    let mut options = Options { seed: 1, texts: 200_000, records: 60_000, lists: 60_000, policycheck: None, reports: 3_000 };
+    let (policycheck, policyreach) = (None, None);
+    let mut options = Options { seed: 1, texts: 200_000, records: 60_000, graphs: 20_000, lists: 60_000, policycheck, policyreach, reports: 3_000 };
     let mut words = std::env::args().skip(1);
     while let (Some(name), Some(value)) = (words.next(), words.next()) {
         let number = || value.parse().unwrap_or_else(|_| panic!("{name} takes a number"));
@@ -31,9 +39,11 @@ fn options() -> Options {
             "--seed" => options.seed = number() as u64,
             "--texts" => options.texts = number(),
             "--records" => options.records = number(),
+            "--graphs" => options.graphs = number(),
             "--lists" => options.lists = number(),
             "--reports" => options.reports = number(),
             "--policycheck" => options.policycheck = Some(value),
+            "--policyreach" => options.policyreach = Some(value),
             _ => panic!("unknown option {name}"),
         }
     }
@@ -54,12 +64,14 @@ fn main() {
     let begun = Instant::now();
     compare_texts(&options, &kernels, &mut reached);
     compare_records(&options, &kernels, &mut reached);
+    compare_graphs(&options, &kernels, &mut reached);
     compare_lists(&options, &kernels, &mut reached);
     compare_reports(&options);
+    compare_reaches(&options);
     for (case, count) in &reached.0 {
         println!("{count:9} {case}");
     }
-    let wanted: Vec<&str> = TEXT_CASES.iter().chain(&LIST_CASES).copied().collect();
+    let wanted: Vec<&str> = TEXT_CASES.iter().chain(&REACH_CASES).chain(&LIST_CASES).copied().collect();
     let missing = reached.missing(&wanted);
     println!(
         "differential: no difference, {} of {} cases reached, {:.1} s",
@@ -112,6 +124,7 @@ fn compare_records(options: &Options, kernels: &[Box<dyn Kernel>], reached: &mut
                 fail("record", &difference, &show::policy(record));
             }
         }
+        compare_reach(record, kernels, reached);
     };
     for round in 0..options.records {
         let shape = Shape::any(&mut random);
@@ -142,6 +155,27 @@ fn compare_records(options: &Options, kernels: &[Box<dyn Kernel>], reached: &mut
     println!("records: {done}, {:.1} s", begun.elapsed().as_secs_f64());
 }
 
+/// The report on a record and the answers to questions about it.
+fn compare_reach(record: &Policy, kernels: &[Box<dyn Kernel>], reached: &mut Reached) {
+    let wanted = Wanted::of(record);
+    reached.reach(&wanted);
+    for kernel in kernels {
+        if wanted.difference(&**kernel).is_some() {
+            let short = shrink::shrink_policy(record, &mut |record| reach_difference(&**kernel, record).is_some());
+            fail("graph", &reach_difference(&**kernel, &short).unwrap_or_default(), &show::policy(&short));
+        }
+    }
+}
+
+fn compare_graphs(options: &Options, kernels: &[Box<dyn Kernel>], reached: &mut Reached) {
+    let begun = Instant::now();
+    let mut random = Random::new(options.seed ^ 0x62AF);
+    for _ in 0..options.graphs {
+        compare_reach(&graphs::near(&mut random), kernels, reached);
+    }
+    println!("graphs: {}, {:.1} s", options.graphs, begun.elapsed().as_secs_f64());
+}
+
 fn compare_lists(options: &Options, kernels: &[Box<dyn Kernel>], reached: &mut Reached) {
     let begun = Instant::now();
     let mut random = Random::new(options.seed ^ 0x11575);
@@ -167,20 +201,76 @@ fn compare_reports(options: &Options) {
     let mut random = Random::new(options.seed ^ 0xC4EC);
     for round in 0..options.reports {
         let text = if round == 0 { DEMONSTRATION.as_bytes().to_vec() } else { texts::text(&mut random) };
-        let differs = |text: &[u8]| (policycheck(path, text) != report(text).as_bytes()).then(|| policycheck(path, text));
-        if differs(&text).is_some() {
-            let short = shrink::shrink_text(&text, &mut |text| differs(text).is_some());
-            let wrote = differs(&short).unwrap_or_default();
-            let difference = format!("policycheck wrote {:?}, the reference {:?}", String::from_utf8_lossy(&wrote), report(&short));
-            fail("report", &difference, &show::text(&short));
-        }
+        compare_written(path, &[], &text, &|text| report(text));
     }
     println!("reports: {}, {:.1} s", options.reports, begun.elapsed().as_secs_f64());
 }
 
-fn policycheck(path: &str, text: &[u8]) -> Vec<u8> {
-    let mut program = Command::new(path).stdin(Stdio::piped()).stdout(Stdio::piped()).spawn().expect("policycheck starts");
+/// The program policyreach against the reference, with arguments of all sorts.
+fn compare_reaches(options: &Options) {
+    let Some(path) = &options.policyreach else { return };
+    let begun = Instant::now();
+    let mut random = Random::new(options.seed ^ 0x2EAC);
+    let mut asked = [0; 3];
+    for round in 0..options.reports {
+        let record = graphs::record(&mut random);
+        let text = match round {
+            0 => DEMONSTRATION.as_bytes().to_vec(),
+            1 => texts::text_of(&longest()),
+            _ if round % 4 == 0 => texts::text(&mut random),
+            _ => numbers::written(&mut random, texts::text_of(&record)),
+        };
+        let arguments = if round < 2 { Vec::new() } else { arguments(&mut random, record.segments as usize) };
+        compare_written(path, &arguments, &text, &|text| policyreach(&arguments, text));
+        let is_usage = policyreach(&arguments, &text) == USAGE;
+        if is_usage {
+            compare_unread(path, &arguments);
+        }
+        asked[if is_usage { 2 } else { arguments.len() / 2 }] += 1;
+    }
+    let [reports, questions, usages] = asked;
+    println!("reaches: {reports} reports, {questions} questions, {usages} told how to call it, {:.1} s", begun.elapsed().as_secs_f64());
+}
+
+/// What a program writes on a text against what the reference has.
+fn compare_written(path: &str, arguments: &[Vec<u8>], text: &[u8], wanted: &dyn Fn(&[u8]) -> String) {
+    let differs = |text: &[u8]| Some(written(path, arguments, text)).filter(|wrote| wrote != wanted(text).as_bytes());
+    if differs(text).is_some() {
+        let short = shrink::shrink_text(text, &mut |text| differs(text).is_some());
+        let wrote = differs(&short).unwrap_or_default();
+        let difference = format!("{} wrote {:?}, the reference {:?}", call(path, arguments), String::from_utf8_lossy(&wrote), wanted(&short));
+        fail("report", &difference, &show::text(&short));
+    }
+}
+
+fn call(path: &str, arguments: &[Vec<u8>]) -> String {
+    let shown: Vec<_> = arguments.iter().map(|argument| format!(" {:?}", String::from_utf8_lossy(argument))).collect();
+    format!("{path}{}", shown.concat())
+}
+
+fn program(path: &str, arguments: &[Vec<u8>]) -> Command {
+    let mut program = Command::new(path);
+    program.args(arguments.iter().map(|argument| OsStr::from_bytes(argument)));
+    program
+}
+
+fn written(path: &str, arguments: &[Vec<u8>], text: &[u8]) -> Vec<u8> {
+    let mut program = program(path, arguments).stdin(Stdio::piped()).stdout(Stdio::piped()).spawn().expect("the program starts");
     // A program that stops reading early closes its input: that is no failure of the test.
     let _ = program.stdin.take().unwrap().write_all(text);
-    program.wait_with_output().expect("policycheck ends").stdout
+    program.wait_with_output().expect("the program ends").stdout
+}
+
+/// A program that says how to call it has read nothing.
+fn compare_unread(path: &str, arguments: &[Vec<u8>]) {
+    let (mut left, mut text) = std::io::pipe().expect("a pipe");
+    text.write_all(DEMONSTRATION.as_bytes()).expect("the pipe has room");
+    drop(text);
+    let input = left.try_clone().expect("a second end");
+    program(path, arguments).stdin(input).stdout(Stdio::null()).status().expect("the program ends");
+    let mut unread = Vec::new();
+    left.read_to_end(&mut unread).expect("the pipe can be read");
+    if unread != DEMONSTRATION.as_bytes() {
+        fail("call", "the program has read its input", &call(path, arguments));
+    }
 }

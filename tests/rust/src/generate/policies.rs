@@ -56,6 +56,13 @@ pub fn policy(random: &mut Random, shape: Shape) -> Policy {
     rights(random, &mut policy, shape);
     flows(random, &mut policy, shape);
     let slots = random.from(shape.slots.0, shape.slots.1);
+    schedule(random, &mut policy, slots);
+    policy
+}
+
+/// So many slots.
+pub(super) fn schedule(random: &mut Random, policy: &mut Policy, slots: usize) {
+    let partitions = policy.partitions as usize;
     policy.slots = slots as u8;
     let short = random.below(3) > 0;
     for slot in 0..slots {
@@ -68,11 +75,10 @@ pub fn policy(random: &mut Random, shape: Shape) -> Policy {
             policy.slot_partition.swap(slot, random.below(slot + 1));
         }
     }
-    policy
 }
 
-/// Lengths, and bases in a random order of ids, with gaps or without.
-fn lay_out(random: &mut Random, policy: &mut Policy, ids: &[usize], codes: usize) {
+/// Lengths, and bases in a random order of ids, with gaps or without. The ids come save segments first, then so many code segments.
+pub(super) fn lay_out(random: &mut Random, policy: &mut Policy, ids: &[usize], codes: usize) {
     let partitions = policy.partitions as usize;
     let segments = ids.len();
     let mut room = 16_384 - 44 * partitions;

@@ -51,6 +51,20 @@ pub fn few_flows() -> Policy {
     policy
 }
 
+/// 32 segments, 8 partitions and 32 slots, and one chain through all segments, 0 to 31: each partition's code flows into its save segment, and that into
+/// the next one's code.
+pub fn chain() -> Policy {
+    let mut policy = longest();
+    (policy.reads, policy.writes, policy.sources) = ([0; 8], [0; 8], [0; 32]);
+    (policy.base, policy.size) = (std::array::from_fn(|s| 44 * s as u16), [44; 32]);
+    for p in 0..8 {
+        (policy.code[p], policy.save[p]) = (2 * p as u8, 2 * p as u8 + 1);
+        policy.set_right(p, 2 * p, 1);
+    }
+    (1..32).for_each(|s| policy.set_flow(s - 1, s, true));
+    policy
+}
+
 /// Eight partitions in slots of 16 ticks, for 8 interrupts each.
 pub fn eight() -> Policy {
     let mut text = String::new();

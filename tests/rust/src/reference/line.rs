@@ -63,7 +63,7 @@ pub fn parse(line: &[u8]) -> Result<Line, &'static str> {
 }
 
 /// A number, in either form. A field that begins with 0x is judged as hexadecimal alone.
-fn number(field: &[u8]) -> Result<u32, &'static str> {
+pub fn number(field: &[u8]) -> Result<u32, &'static str> {
     match field.strip_prefix(b"0x") {
         Some(digits) => hexadecimal(digits),
         None => decimal(field),

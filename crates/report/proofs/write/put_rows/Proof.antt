@@ -4,8 +4,8 @@ use mathlib.Core.Path.{_≡_}
 use native.Mathlib.Omega.{arith}
 use borrow.Author.Needs.{needs}
 use Rattle.report.specs.Rows.{rowsIn}
-use Rattle.report.specs.Written.{Written}
-use Rattle.report.proofs.Laws.Written.{written-none}
+use Rattle.writing.specs.Written.{Written}
+use Rattle.writing.proofs.Laws.Written.{written-none}
 use Rattle.report.proofs.Laws.Masks.{mask-small}
 use Rattle.report.proofs.Laws.Rows.{rows-more, rows-length, segment-length}
 use Rattle.report.proofs.write.put_rows.Statement.{statement}

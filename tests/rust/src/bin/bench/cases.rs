@@ -4,7 +4,7 @@ use crate::timed::Timed;
 use separation::boundary::MEMORY;
 use separation::generate::policies::{full_in_hexadecimal, longest};
 use separation::generate::texts::{hexadecimal_text_of, text_of};
-use separation::generate::workloads::{copy, copy_words, few_flows, least, policy_of, programs, COMPUTE};
+use separation::generate::workloads::{chain, copy, copy_words, few_flows, least, policy_of, programs, COMPUTE};
 
 pub const DEMONSTRATION: &[u8] = include_bytes!("../../../../../policies/demonstration.policy");
 
@@ -33,7 +33,19 @@ const fn call(name: &'static str, calls: u32, time: fn(&dyn Timed, u32) -> f64) 
 /// Its calls time one another, so that its instructions are not counted.
 pub const INTERRUPTS: &str = "tick, interrupts (taken and back in turn)";
 
-pub const CASES: [Case; 20] = [
+const SOUND_DEMONSTRATION: &str = "soundness, demonstration (5/2/2)";
+const SOUND_LARGEST: &str = "soundness, largest record (32/8/32)";
+const ASK_DEMONSTRATION: &str = "question that one line answers, demonstration";
+const ASK_LARGEST: &str = "question that one line answers, largest record";
+
+/// Flow lines of the two records, from and to.
+pub const ONE_LINE: [(u32, u32); 2] = [(4, 3), (30, 31)];
+
+/// Rows that bear soundness and little more, each with the row of soundness alone, and the most that their ratio should be.
+pub const BESIDE: [(&str, &str); 2] = [(ASK_DEMONSTRATION, SOUND_DEMONSTRATION), (ASK_LARGEST, SOUND_LARGEST)];
+pub const BESIDE_AIM: f64 = 1.1;
+
+pub const CASES: [Case; 25] = [
     tick("tick, compute loop", |kernel, calls| {
         let (policy, memory) = programs(&COMPUTE, &COMPUTE);
         kernel.run(&policy, &memory, RUN, calls)
@@ -52,8 +64,8 @@ pub const CASES: [Case; 20] = [
     }),
     Case { name: INTERRUPTS, aim: 1.0, calls: 200, parts: 128, time: |kernel, calls| kernel.interrupts(calls) },
     call("soundness, least record (3/1/1)", 300, |kernel, calls| kernel.sound(&least(), calls)),
-    call("soundness, demonstration (5/2/2)", 300, |kernel, calls| kernel.sound(&policy_of(DEMONSTRATION), calls)),
-    call("soundness, largest record (32/8/32)", 100, |kernel, calls| kernel.sound(&longest(), calls)),
+    call(SOUND_DEMONSTRATION, 300, |kernel, calls| kernel.sound(&policy_of(DEMONSTRATION), calls)),
+    call(SOUND_LARGEST, 100, |kernel, calls| kernel.sound(&longest(), calls)),
     call("soundness, 32/8/32 with few flows", 100, |kernel, calls| kernel.sound(&few_flows(), calls)),
     call("Pend, demonstration", 300, |kernel, calls| kernel.pend(&policy_of(DEMONSTRATION), calls)),
     call("Pend, largest record", 100, |kernel, calls| kernel.pend(&longest(), calls)),
@@ -66,4 +78,9 @@ pub const CASES: [Case; 20] = [
     call("Read, longest text in decimal (13,639 bytes)", 10, |kernel, calls| kernel.read(&text_of(&longest()), calls)),
     call("Read, 1,096 lines in decimal (12,391 bytes)", 10, |kernel, calls| kernel.read(&text_of(&full_in_hexadecimal()), calls)),
     call("Read, the same in hexadecimal (16,384 bytes)", 10, |kernel, calls| kernel.read(&hexadecimal_text_of(&full_in_hexadecimal()), calls)),
+    Case { aim: 1.5, ..call("report, largest record", 100, |kernel, calls| kernel.reach(&longest(), calls)) },
+    Case { aim: 1.5, ..call("report, chain of 32 segments", 100, |kernel, calls| kernel.reach(&chain(), calls)) },
+    call(ASK_DEMONSTRATION, 300, |kernel, calls| kernel.can_reach(&policy_of(DEMONSTRATION), ONE_LINE[0], calls)),
+    call(ASK_LARGEST, 100, |kernel, calls| kernel.can_reach(&longest(), ONE_LINE[1], calls)),
+    call("question, chain of 32 segments end to end", 100, |kernel, calls| kernel.can_reach(&chain(), (0, 31), calls)),
 ];

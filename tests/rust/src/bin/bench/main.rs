@@ -8,13 +8,15 @@ mod cases;
 mod instructions;
 mod timed;
 
-use cases::{CASES, DEMONSTRATION};
-use separation::boundary::Kernel;
+use cases::{BESIDE, BESIDE_AIM, CASES, DEMONSTRATION, ONE_LINE};
+use instructions::SAYS_NOTHING;
+use separation::boundary::{Answer, Kernel};
 use separation::generate::policies::{full_in_hexadecimal, longest};
 use separation::generate::texts::{hexadecimal_text_of, text_of};
-use separation::generate::workloads::few_flows;
+use separation::generate::workloads::{chain, few_flows, policy_of};
 use separation::reference;
 use separation::tuned::Tuned;
+use std::collections::BTreeMap;
 use timed::{min_and_median, Timed};
 
 #[cfg(feature = "archive")]
@@ -52,6 +54,35 @@ fn assert_reads(kernel: &dyn Kernel) {
     assert_eq!(kernel.read(&hexadecimal_text_of(&full)).policy, full);
 }
 
+/// The report and the answers are the reference's, and what one line is to answer one line does.
+fn assert_reaches(kernel: &dyn Kernel) {
+    let records = [policy_of(DEMONSTRATION), longest(), chain()];
+    records.iter().for_each(|record| assert_eq!(kernel.reach(record), reference::reach(record)));
+    for (record, (from, to)) in records.iter().zip(ONE_LINE.into_iter().chain([(0, 31)])) {
+        assert_eq!(kernel.can_reach(record, from, to), Answer { number: 0, yes: 1 });
+    }
+    assert!(records.iter().zip(ONE_LINE).all(|(record, (from, to))| record.flow(from as usize, to as usize)));
+}
+
+/// A number, or a dash where a kernel says nothing.
+fn shown(number: f64, digits: usize) -> String {
+    if number.is_nan() {
+        return "–".to_string();
+    }
+    format!("{number:.digits$}")
+}
+
+/// A second table: what a question takes beside soundness alone, of the columns of the first.
+fn print_beside(columns: &[String], of: &dyn Fn(&str) -> Vec<f64>) {
+    println!("\n| to soundness alone | {} | aim |", columns.join(" | "));
+    println!("|---|{}---:|", "---:|".repeat(columns.len()));
+    for (question, soundness) in BESIDE {
+        print!("| {question} |");
+        of(question).iter().zip(of(soundness)).for_each(|(question, soundness)| print!(" {} |", shown(question / soundness, 2)));
+        println!(" {BESIDE_AIM:.1} |");
+    }
+}
+
 fn main() {
     let words: Vec<String> = std::env::args().skip(1).collect();
     let words: Vec<&str> = words.iter().map(String::as_str).collect();
@@ -62,14 +93,43 @@ fn main() {
         ["--rounds", rounds] => times(&kernels, number(rounds)),
         ["--count"] => instructions::table(&kernels.iter().map(|kernel| kernel.0).collect::<Vec<_>>()),
         // For --count: so many calls of one case by one kernel.
-        ["--once", case, kernel, calls] => drop((CASES[number(case) as usize].time)(kernels[number(kernel) as usize].1, number(calls))),
+        ["--once", case, kernel, calls] => {
+            let time = (CASES[number(case) as usize].time)(kernels[number(kernel) as usize].1, number(calls));
+            std::process::exit(if time.is_nan() { SAYS_NOTHING } else { 0 });
+        }
         _ => panic!("the options are --rounds N and --count"),
     }
 }
 
 fn times(kernels: &[Named], rounds: u32) {
-    assert_reads(&Proved);
-    assert_reads(&Tuned);
+    for kernel in [&Proved as &dyn Kernel, &Tuned] {
+        assert_reads(kernel);
+        assert_reaches(kernel);
+    }
+    let times = measured(kernels, rounds);
+    print!("| what, in ns |");
+    kernels.iter().for_each(|(name, _)| print!(" {name} min | {name} median |"));
+    kernels[1..].iter().for_each(|(name, _)| print!(" min to {name} | median to {name} |"));
+    println!(" aim to tuned |");
+    println!("|---|{}---:|", "---:|".repeat(4 * kernels.len() - 2));
+    for case in &CASES {
+        let times = &times[case.name];
+        print!("| {} |", case.name);
+        times.iter().for_each(|&time| print!(" {} |", shown(time, 2)));
+        times[2..].iter().enumerate().for_each(|(at, time)| print!(" {} |", shown(times[at % 2] / time, 2)));
+        println!(" {:.1} |", case.aim);
+    }
+    let columns: Vec<String> = kernels.iter().flat_map(|(name, _)| ["min", "median"].map(|which| format!("{name} {which}"))).collect();
+    print_beside(&columns, &|case| times[case].clone());
+    println!();
+    println!("{rounds} rounds, the kernels in turn, after one round that does not count. Memory is cleared and its programs put in before each");
+    println!("measurement, outside the time taken; within one it goes on from call to call. Result buffers are not cleared before a call. Ticks are");
+    println!("those of Runs of 10,000 (interrupts: of 128, less a Run of 0 ticks), so they bear their share of the check that the record is sound.");
+    println!("The record goes by value through the archive's C boundary, by reference to the tuned kernel.");
+}
+
+/// Of each case the minimum and the median of each kernel.
+fn measured(kernels: &[Named], rounds: u32) -> BTreeMap<&'static str, Vec<f64>> {
     let mut times = vec![vec![Vec::new(); kernels.len()]; CASES.len()];
     for round in 0..=rounds {
         for (case, times) in CASES.iter().zip(&mut times) {
@@ -82,21 +142,6 @@ fn times(kernels: &[Named], rounds: u32) {
             }
         }
     }
-    print!("| what, in ns |");
-    kernels.iter().for_each(|(name, _)| print!(" {name} min | {name} median |"));
-    kernels[1..].iter().for_each(|(name, _)| print!(" min to {name} | median to {name} |"));
-    println!(" aim to tuned |");
-    println!("|---|{}---:|", "---:|".repeat(4 * kernels.len() - 2));
-    for (case, times) in CASES.iter().zip(&mut times) {
-        let times: Vec<(f64, f64)> = times.iter_mut().map(|times| min_and_median(times)).collect();
-        print!("| {} |", case.name);
-        times.iter().for_each(|(min, median)| print!(" {min:.2} | {median:.2} |"));
-        times[1..].iter().for_each(|(min, median)| print!(" {:.2} | {:.2} |", times[0].0 / min, times[0].1 / median));
-        println!(" {:.1} |", case.aim);
-    }
-    println!();
-    println!("{rounds} rounds, the kernels in turn, after one round that does not count. Memory is cleared and its programs put in before each");
-    println!("measurement, outside the time taken; within one it goes on from call to call. Result buffers are not cleared before a call. Ticks are");
-    println!("those of Runs of 10,000 (interrupts: of 128, less a Run of 0 ticks), so they bear their share of the check that the record is sound.");
-    println!("The record goes by value through the archive's C boundary, by reference to the tuned kernel.");
+    let both = |times: &mut Vec<f64>| <[f64; 2]>::from(min_and_median(times));
+    CASES.iter().zip(&mut times).map(|(case, times)| (case.name, times.iter_mut().flat_map(both).collect())).collect()
 }

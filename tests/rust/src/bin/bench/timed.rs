@@ -27,6 +27,8 @@ pub trait Timed {
     fn start(&self, policy: &Policy, calls: u32) -> f64;
     fn sound(&self, policy: &Policy, calls: u32) -> f64;
     fn read(&self, text: &[u8], calls: u32) -> f64;
+    fn reach(&self, policy: &Policy, calls: u32) -> f64;
+    fn can_reach(&self, policy: &Policy, pair: (u32, u32), calls: u32) -> f64;
 }
 
 impl<K: Kernel> Timed for K {
@@ -102,6 +104,29 @@ impl<K: Kernel> Timed for K {
         let begun = Instant::now();
         for _ in 0..calls {
             black_box(&Kernel::read(self, black_box(text)));
+        }
+        ns(begun, calls)
+    }
+
+    fn reach(&self, policy: &Policy, calls: u32) -> f64 {
+        // An earlier kernel may not have the call.
+        if Kernel::reach(self, policy).number != 0 {
+            return f64::NAN;
+        }
+        let begun = Instant::now();
+        for _ in 0..calls {
+            black_box(&Kernel::reach(self, black_box(policy)));
+        }
+        ns(begun, calls)
+    }
+
+    fn can_reach(&self, policy: &Policy, (from, to): (u32, u32), calls: u32) -> f64 {
+        if Kernel::can_reach(self, policy, from, to).number != 0 {
+            return f64::NAN;
+        }
+        let begun = Instant::now();
+        for _ in 0..calls {
+            black_box(Kernel::can_reach(self, black_box(policy), black_box(from), black_box(to)));
         }
         ns(begun, calls)
     }

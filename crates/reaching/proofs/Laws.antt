@@ -1,0 +1,4 @@
+pub mod Lines
+pub mod Words
+pub mod Answer
+pub mod Reading

@@ -1,0 +1,2 @@
+-- Laws that the functions' proofs cite, one subject a file.
+pub mod Laws
