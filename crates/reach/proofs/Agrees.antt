@@ -19,13 +19,12 @@ use Rattle.policy.specs.Sound.{soundOf}
 use Rattle.policy.specs.Tables.{Tables, viewOf}
 use Rattle.policy.specs.View.{View}
 use Rattle.policy.proofs.Lawful.{lawful}
-use Rattle.policy.proofs.Laws.Bools.{or-both}
+use Rattle.policy.proofs.Laws.Bools.{or-both, or-cases}
 use Rattle.calls.specs.Under.{Under, under}
 use Rattle.reach.specs.Via.{reaches}
 use Rattle.reach.specs.Rows.{thoseBelow, rowOf, rowMask, reportMasks}
 use Rattle.reach.specs.Answers.{reachAsked, reachAnswer, canReachAsked, canReachAnswer}
 use Rattle.reach.specs.Exact.{MaskExact, MasksReport, Agrees}
-use Rattle.reach.proofs.Laws.Via.{or-cases}
 use Rattle.reach.proofs.Laws.Rows.{list-long, list-at, list-same, those-pass, those-hold, those-same}
 
 -- Answers with other numbers differ.

@@ -3,7 +3,7 @@ use Prim.Native.Nat.{ℕ, zero, suc}
 use mathlib.Core.Bool.{Bool, cond}
 use mathlib.Core.List.{List}
 use lib.Bits.{bitOr}
-use lib.ListN.{getD, set}
+use lib.ListN.{length, getD, set}
 use Rattle.bits.specs.Masks.{has}
 
 -- Whether a line stands, by the sources of each segment.
@@ -19,7 +19,7 @@ unfoldable pub spreadTo : List ℕ → ℕ → ℕ → List ℕ
 spreadTo rows k zero = rows
 spreadTo rows k (suc t) = set (spreadTo rows k t) t (spreadAt rows k t)
 
--- And through 0, 1 and on, each time for all n rows.
-unfoldable pub spreadUp : List ℕ → ℕ → ℕ → List ℕ
-spreadUp rows n zero = rows
-spreadUp rows n (suc k) = spreadTo (spreadUp rows n k) k n
+-- And through 0, 1 and on, each time for all rows.
+unfoldable pub spreadUp : List ℕ → ℕ → List ℕ
+spreadUp rows zero = rows
+spreadUp rows (suc k) = spreadTo (spreadUp rows k) k (length rows)

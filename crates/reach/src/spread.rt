@@ -14,16 +14,16 @@ fn taken(row: u32, k: u8, through: u32) -> u32
     if (row >> k) % 2 == 1 { through } else { 0 }
 }
 
-// The step of k, in place: row k takes over itself alone, so it is the same for the rows before it and after it. No branch but
-// the loop's: the compiler then takes several rows at once.
-fn spread(rows: &mut [u32], segments: u8, k: u8)
-    requires { ⌜ (k < segments) × (segments ≤ 32) × (segments ≤ length (now rows)) ⌝ }
-    ensures { λ _. ⌜ now (rows .exit) ≡ spreadTo (now (rows .entry)) k segments ⌝ }
+// The step of k, in place: row k takes over itself alone, so it is the same for the rows before it and after it. All rows of the
+// array: those past the last segment are 0 and stay 0. No branch but the loop's, and none left where the compiler knows the
+// array's length: it then takes four rows at once.
+fn spread(rows: &mut [u32], k: u8)
+    requires { ⌜ (k < 32) × (k < length (now rows)) ⌝ }
+    ensures { λ _. ⌜ now (rows .exit) ≡ spreadTo (now (rows .entry)) k (length (now (rows .entry))) ⌝ }
 {
-    let count = segments as usize;
     let through = rows[k as usize];
     let mut t = 0;
-    while t < count {
+    while t < rows.len() {
         let row = rows[t];
         rows[t] = row | taken(row, k, through);
         t += 1;
@@ -32,11 +32,11 @@ fn spread(rows: &mut [u32], segments: u8, k: u8)
 
 pub(crate) fn spread_all(rows: &mut [u32], segments: u8)
     requires { ⌜ (segments ≤ 32) × (segments ≤ length (now rows)) ⌝ }
-    ensures { λ _. ⌜ now (rows .exit) ≡ spreadUp (now (rows .entry)) segments segments ⌝ }
+    ensures { λ _. ⌜ now (rows .exit) ≡ spreadUp (now (rows .entry)) segments ⌝ }
 {
     let mut k: u8 = 0;
     while k < segments {
-        spread(rows, segments, k);
+        spread(rows, k);
         k += 1;
     }
 }

@@ -65,33 +65,16 @@ fn write(memory: &mut [u8], at: u32, line: &[u8]) {
     append(&space[..n], memory, at as usize);
 }
 
-// A step, and the place after it. A line of bytes is no step: it belongs to the one before.
-fn act(
-    name: &[u8],
-    memory: &mut [u8],
-    policy: Policy,
-    place: Place,
-    line: &[u8],
-    next: &[u8],
-) -> Place {
+// What a step does, and the place after it. A line of bytes is no step: it belongs to the one before.
+fn act(memory: &mut [u8], policy: Policy, place: Place, line: &[u8], next: &[u8]) -> Place {
     let x = number_in(line, 1);
     let y = number_in(line, 2);
-    let call = byte_at(line, 0);
-    show_call(name, line, call);
-    match call {
+    match byte_at(line, 0) {
         b's' => answered(kernel::start(policy, memory)),
         b'r' => answered(kernel::run(policy, memory, place, x)),
         b'a' => Place { slot: x, used: y },
         b'p' => {
             show_answer(kernel::outcome_number(kernel::pend(policy, memory, x, y)));
-            place
-        }
-        b'm' => {
-            show_masks(policy);
-            place
-        }
-        b'q' => {
-            show_reach(policy, x, y);
             place
         }
         b'w' => {
@@ -114,6 +97,26 @@ fn act(
     }
 }
 
+// A step: what is asked of the record, and what is done.
+fn step(
+    name: &[u8],
+    memory: &mut [u8],
+    policy: Policy,
+    place: Place,
+    line: &[u8],
+    next: &[u8],
+) -> Place {
+    let call = byte_at(line, 0);
+    show_call(name, line, call);
+    if call == b'm' {
+        show_masks(policy);
+    }
+    if call == b'q' {
+        show_reach(policy, number_in(line, 1), number_in(line, 2));
+    }
+    act(memory, policy, place, line, next)
+}
+
 // The steps up to the one that ends the scenario, and where the next one begins.
 fn steps(file: &[u8], from: usize, name: &[u8], memory: &mut [u8], read: Policy) -> usize {
     let mut policy = read;
@@ -124,7 +127,7 @@ fn steps(file: &[u8], from: usize, name: &[u8], memory: &mut [u8], read: Policy)
         let line = field(file, at, b'\n');
         at = past(file, at, b'\n');
         policy = changed(policy, line);
-        place = act(name, memory, policy, place, line, field(file, at, b'\n'));
+        place = step(name, memory, policy, place, line, field(file, at, b'\n'));
         if byte_at(line, 0) == b'e' {
             return at;
         }

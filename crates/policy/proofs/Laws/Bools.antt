@@ -22,3 +22,8 @@ same-truth false false f g = refl
 pub not-so : (a : Bool) → (a ≡ true → ⊥) → a ≡ false
 not-so true h = absurd (h refl)
 not-so false h = refl
+
+-- Where one of two holds, what each gives.
+pub or-cases : {A : Type 0} (a b : Bool) → a || b ≡ true → (a ≡ true → A) → (b ≡ true → A) → A
+or-cases true b h f g = f refl
+or-cases false b h f g = g h

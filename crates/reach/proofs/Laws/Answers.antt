@@ -22,7 +22,7 @@ use Rattle.policy.proofs.Laws.Tests.{parts, flow-there}
 use Rattle.reach.specs.Rows.{rowMask, reportMasks}
 use Rattle.reach.specs.Spread.{spreadUp}
 use Rattle.reach.proofs.Laws.Rows.{list-long, list-at}
-use Rattle.reach.proofs.Laws.Spread.{up-long, up-past, up-via}
+use Rattle.reach.proofs.Laws.Spread.{up-long, up-none, up-via}
 
 module _ (limits : Limits) (t : Tables) (h : soundOf limits t ≡ true) where
   abbrev n : ℕ
@@ -62,17 +62,16 @@ module _ (limits : Limits) (t : Tables) (h : soundOf limits t ≡ true) where
   past u l =
       masks-same n (getD sources u 0) 0 (among u) (pow-pos n) (λ s k. stray s u (λ a b. omega arith) ∙ sym (has-none s))
 
-  pub rows-are : spreadUp sources n n ≡ reportMasks limits (viewOf t)
+  pub rows-are : spreadUp sources n ≡ reportMasks limits (viewOf t)
   rows-are =
-      ext-getD 0 (spreadUp sources n n) (reportMasks limits (viewOf t))
-      (up-long sources n n ∙ lengths limits t h .sources ∙ sym (list-long (rowMask (viewOf t)) (limits .segments)))
-      (λ i l. at i (omega (arith, up-long sources n n, lengths limits t h .sources)) (decLt i n))
+      ext-getD 0 (spreadUp sources n) (reportMasks limits (viewOf t))
+      (up-long sources n ∙ lengths limits t h .sources ∙ sym (list-long (rowMask (viewOf t)) (limits .segments)))
+      (λ i l. at i (omega (arith, up-long sources n, lengths limits t h .sources)) (decLt i n))
     where
-      at : (i : ℕ) → i < limits .segments → Dec (i < n) → getD (spreadUp sources n n) i 0 ≡ getD (reportMasks limits (viewOf t)) i 0
+      at : (i : ℕ) → i < limits .segments → Dec (i < n) → getD (spreadUp sources n) i 0 ≡ getD (reportMasks limits (viewOf t)) i 0
       at i l (yes k) =
           up-via sources n wide among n i (omega arith) k
           ∙ sym (list-at (rowMask (viewOf t)) (limits .segments) i 0 l ∙ rw (lt-ltb i n k))
       at i l (no k) =
-          up-past sources n n i (omega arith)
-          ∙ past i (omega arith)
+          up-none sources n i (omega (arith, lengths limits t h .sources)) (past i (omega arith))
           ∙ sym (list-at (rowMask (viewOf t)) (limits .segments) i 0 l ∙ rw (le-ltb i n (omega arith)))

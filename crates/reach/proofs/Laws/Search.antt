@@ -14,10 +14,10 @@ use lib.Dec.{eqb}
 use lib.ListN.{getD}
 use Rattle.bits.specs.Masks.{AllUnder, has, withBit}
 use Rattle.bits.proofs.Laws.Masks.{has-or, has-xor, has-with, has-past, has-none, half-has, zero-has, with-more, with-under}
-use Rattle.policy.proofs.Laws.Bools.{not-so}
+use Rattle.policy.proofs.Laws.Bools.{not-so, or-cases}
 use Rattle.reach.specs.Via.{via}
 use Rattle.reach.specs.Spread.{flowIn}
-use Rattle.reach.proofs.Laws.Via.{later, line-then, holds, or-cases}
+use Rattle.reach.proofs.Laws.Via.{later, line-then, holds}
 
 -- The lowest bit of a mask that has one.
 lowest : (k m : ℕ) → (m ≡ 0 → ⊥) → m < 2 ^ k → has m (trailingZeros k m) ≡ true
@@ -39,7 +39,8 @@ module _ (sources : List ℕ) (n t : ℕ) where
   abbrev flow : ℕ → ℕ → Bool
   flow = flowIn sources
 
-  -- Before a turn.
+  -- Before a turn: what was found are segments, and so is what was looked at; each of them has a chain to t, what flows into t is among
+  -- them, what was looked at is, and so is what flows into that.
   pub record Search (found looked : ℕ) : Type 0 where
     pub inside : found < 2 ^ n
     pub few : looked < 2 ^ n
@@ -66,16 +67,16 @@ module _ (sources : List ℕ) (n t : ℕ) where
     search-done e s h =
         sym (not-so (via flow n s t) (λ v. true≢false (sym (holds flow n (has found) closed n s t (omega arith) (x .into) v) ∙ h)))
       where
-        same : (u : ℕ) (a b : Bool) → cond a (not b) b ≡ false → a ≡ true → b ≡ true
-        same u true true q h = refl
-        same u true false q h = absurd (true≢false q)
-        same u false b q h = absurd (true≢false (sym h))
+        same : (a b : Bool) → cond a (not b) b ≡ false → a ≡ true → b ≡ true
+        same true true q h = refl
+        same true false q h = absurd (true≢false q)
+        same false b q h = absurd (true≢false (sym h))
 
         closed : (u s : ℕ) → u < n → has found u ≡ true → flow s u ≡ true → has found s ≡ true
         closed u s l h f =
             let none : cond (has found u) (not (has looked u)) (has looked u) ≡ false =
             sym (has-xor found looked u) ∙ ap (λ (m : ℕ). has m u) e ∙ has-none u in
-            x .done u s (same u (has found u) (has looked u) none h) f
+            x .done u s (same (has found u) (has looked u) none h) f
 
     pub search-found : (s : ℕ) → has found s ≡ true → true ≡ via flow n s t
     search-found s h = sym (x .chains s h)
@@ -115,7 +116,7 @@ module _ (sources : List ℕ) (n t : ℕ) where
       added : (s : ℕ) → flow s k ≡ true → has (bitOr found (getD sources k 0)) s ≡ true
       added s h = has-or found (getD sources k 0) s ∙ rw (h, or-true)
 
-      -- A bit of the masks with k looked at.
+      -- What was looked at, k among it.
       looks : {A : Type 0} (u : ℕ) → has (withBit looked k) u ≡ true → (has looked u ≡ true → A) → (u ≡ k → A) → A
       looks u h f g = or-cases (has looked u) (eqb u k) (sym (has-with looked k u) ∙ h) f (λ e. g (eqb-true u k e))
 

@@ -10,7 +10,7 @@ use lib.Bits.{bitOr, or-lt, or-zero-r}
 use lib.ListN.{length, getD, set, length-set}
 use lib.Seq.{getD-set-same, getD-set-other}
 use Rattle.bits.specs.Masks.{AllUnder, has, maskOf}
-use Rattle.bits.proofs.Laws.Masks.{has-or, mask-under}
+use Rattle.bits.proofs.Laws.Masks.{has-or, has-none, mask-under}
 use Rattle.bits.proofs.Laws.Sets.{has-below, mask-is}
 use Rattle.reach.specs.Via.{via}
 use Rattle.reach.specs.Spread.{flowIn, spreadAt, spreadTo, spreadUp}
@@ -46,16 +46,21 @@ module _ (rows : List ℕ) (k : ℕ) where
           let q : t ≡ n = omega arith in
           rw q (getD-set-same (spreadTo rows k n) n (spreadAt rows k n) 0 (omega (arith, to-long n)))
 
-module _ (rows : List ℕ) (n : ℕ) where
-  pub up-long : (k : ℕ) → length (spreadUp rows n k) ≡ length rows
+module _ (rows : List ℕ) where
+  pub up-long : (k : ℕ) → length (spreadUp rows k) ≡ length rows
   unfolding spreadUp
   up-long zero = refl
-  up-long (suc k) = to-long (spreadUp rows n k) k n ∙ up-long k
+  up-long (suc k) = to-long (spreadUp rows k) k (length rows) ∙ up-long k
 
-  pub up-past : (k t : ℕ) → n ≤ t → getD (spreadUp rows n k) t 0 ≡ getD rows t 0
+  up-at : (k t : ℕ) → t < length rows → getD (spreadUp rows (suc k)) t 0 ≡ spreadAt (spreadUp rows k) k t
   unfolding spreadUp
-  up-past zero t l = refl
-  up-past (suc k) t l = to-ahead (spreadUp rows n k) k n t l ∙ up-past k t l
+  up-at k t l = to-at (spreadUp rows k) k (length rows) t (rw (up-long k) (omega arith)) l
+
+  -- A row of 0 stays.
+  pub up-none : (k t : ℕ) → t < length rows → getD rows t 0 ≡ 0 → getD (spreadUp rows k) t 0 ≡ 0
+  unfolding spreadUp spreadAt
+  up-none zero t l e = e
+  up-none (suc k) t l e = up-at k t l ∙ rw (up-none k t l e, has-none k)
 
 -- A row that takes over row k, as masks of tests.
 taken-over : (n k : ℕ) (f g : ℕ → Bool) → k < n →
@@ -74,10 +79,10 @@ module _ (sources : List ℕ) (n : ℕ) (wide : n ≤ length sources) (among : A
   abbrev flow : ℕ → ℕ → Bool
   flow = flowIn sources
 
-  pub up-via : (k t : ℕ) → k ≤ n → t < n → getD (spreadUp sources n k) t 0 ≡ maskOf n (λ s. via flow k s t)
+  pub up-via : (k t : ℕ) → k ≤ n → t < n → getD (spreadUp sources k) t 0 ≡ maskOf n (λ s. via flow k s t)
   unfolding spreadUp spreadAt via
   up-via zero t h l = mask-is n (getD sources t 0) (λ s. flow s t) (among t) (λ s m. refl)
   up-via (suc k) t h l =
-      to-at (spreadUp sources n k) k n t (rw (up-long sources n k) wide) l
+      up-at sources k t (omega arith)
       ∙ rw (up-via k t (omega arith) l, up-via k k (omega arith) h)
       (taken-over n k (λ s. via flow k s t) (λ s. via flow k s k) h)

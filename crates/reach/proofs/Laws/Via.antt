@@ -1,17 +1,12 @@
 -- Chains by their inner segments: two are joined, more inner segments lose none, and what is closed under lines holds each source. By
 -- induction on the bound, with no count of steps.
 use Prim.Native.Nat.{ℕ, zero, suc, _<_, _≤_}
-use mathlib.Core.Path.{_≡_, refl}
-use mathlib.Core.Bool.{Bool, true, false, _&&_, _||_, or-true}
+use mathlib.Core.Path.{_≡_}
+use mathlib.Core.Bool.{Bool, true, _&&_, or-true}
 use native.Mathlib.Omega.{arith}
 use native.Mathlib.Decide.{decLt}
-use Rattle.policy.proofs.Laws.Bools.{and-left, and-right}
+use Rattle.policy.proofs.Laws.Bools.{and-left, and-right, or-cases}
 use Rattle.reach.specs.Via.{via}
-
--- A disjunction that holds, by its parts.
-pub or-cases : {A : Type 0} (a b : Bool) → a || b ≡ true → (a ≡ true → A) → (b ≡ true → A) → A
-or-cases true b h f g = f refl
-or-cases false b h f g = g h
 
 module _ (flow : ℕ → ℕ → Bool) where
   pub wider : (k s t : ℕ) → via flow k s t ≡ true → via flow (suc k) s t ≡ true

@@ -27,8 +27,8 @@ changed-requires c κs = search needs
 field-requires-2 : tie.Need-field-requires-2 Inv-loop μ-loop
 field-requires-2 c κs = search needs
 
-act-requires : tie.Need-act-requires Inv-loop μ-loop
-act-requires c κs = search needs
+step-requires : tie.Need-step-requires Inv-loop μ-loop
+step-requires c κs = search needs
 
 byte-at-requires : tie.Need-byte-at-requires Inv-loop μ-loop
 byte-at-requires c κs = search needs
@@ -65,7 +65,7 @@ steps-spec =
     past-requires
     changed-requires
     field-requires-2
-    act-requires
+    step-requires
     byte-at-requires
     same-length
     returns

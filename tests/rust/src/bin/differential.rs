@@ -109,22 +109,26 @@ fn compare_texts(options: &Options, kernels: &[Box<dyn Kernel>], reached: &mut R
     println!("texts: {} ({} bytes), {:.1} s", options.texts, bytes, begun.elapsed().as_secs_f64());
 }
 
+fn compare_record(record: &Policy, kernels: &[Box<dyn Kernel>], reached: &mut Reached) {
+    reached.record(record);
+    if sound(record) != text_gives(record) || sound(record) != bytes_sound(record) {
+        fail("record", "the reference's rules, the record's text and the record of bytes disagree", &show::policy(record));
+    }
+    for kernel in kernels {
+        if let Some(difference) = record_difference(&**kernel, record) {
+            fail("record", &difference, &show::policy(record));
+        }
+    }
+    compare_reach(record, kernels, reached);
+}
+
 fn compare_records(options: &Options, kernels: &[Box<dyn Kernel>], reached: &mut Reached) {
     let begun = Instant::now();
     let mut random = Random::new(options.seed ^ 0x5EC0);
     let mut done = 0;
     let mut compare = |record: &Policy, reached: &mut Reached| {
         done += 1;
-        reached.record(record);
-        if sound(record) != text_gives(record) || sound(record) != bytes_sound(record) {
-            fail("record", "the reference's rules, the record's text and the record of bytes disagree", &show::policy(record));
-        }
-        for kernel in kernels {
-            if let Some(difference) = record_difference(&**kernel, record) {
-                fail("record", &difference, &show::policy(record));
-            }
-        }
-        compare_reach(record, kernels, reached);
+        compare_record(record, kernels, reached);
     };
     for round in 0..options.records {
         let shape = Shape::any(&mut random);

@@ -10,11 +10,10 @@ use Rattle.reach.proofs.spread.spread.Statement.{statement}
 use Rattle.reach.proofs.spread.spread.Tie as tie
 
 abbrev Inv-loop : tie.InvT-loop
-Inv-loop rows₀ segments k count through t₀ rows t =
-    (t ≤ segments) × (length rows ≡ length rows₀) × (rows ≡ spreadTo rows₀ k t)
+Inv-loop rows₀ k through t₀ rows t = (t ≤ length rows₀) × (length rows ≡ length rows₀) × (rows ≡ spreadTo rows₀ k t)
 
 abbrev μ-loop : tie.MeasureT-loop
-μ-loop rows₀ segments k count through t₀ rows t = segments - t
+μ-loop rows₀ k through t₀ rows t = length rows₀ - t
 
 mul-through : tie.Need-mul-through Inv-loop μ-loop
 mul-through c = search needs
@@ -57,8 +56,9 @@ same-length c = search needs
 
 returns : tie.Need-returns Inv-loop μ-loop
 returns c =
-    let e : c .before .loop .t ≡ c .before .before .before .before .args .segments = omega arith in
-    rw e at (c .before .loop .inv .2)
+    let l = c .before in
+    let e : l .loop .t ≡ length (l .before .before .before .args .rows .now) = omega (arith, c .loop-test .left, l .loop .inv .1) in
+    rw e at (l .loop .inv .2)
 
 pub spread-spec : {M : Type 1} → statement M
 spread-spec =

@@ -12,7 +12,7 @@ use Rattle.reach.proofs.spread.spread_all.Tie as tie
 
 abbrev Inv-loop : tie.InvT-loop
 Inv-loop rows₀ segments k₀ rows k =
-    (k ≤ segments) × (length rows ≡ length rows₀) × (rows ≡ spreadUp rows₀ segments k)
+    (k ≤ segments) × (length rows ≡ length rows₀) × (rows ≡ spreadUp rows₀ k)
 
 abbrev μ-loop : tie.MeasureT-loop
 μ-loop rows₀ segments k₀ rows k = segments - k
@@ -37,7 +37,10 @@ loop-again c =
     let l = s .before .before .before in (
       omega arith,
       ap length (s .spread .ensures) ∙ to-long _ _ _ ∙ l .loop .inv .1,
-      rw add-one (s .spread .ensures ∙ ap (λ r. spreadTo r (l .loop .k) (l .before .before .args .segments)) (l .loop .inv .2)),
+      rw add-one
+          (s .spread .ensures
+          ∙ ap (spreadTo (l .loop .rows) (l .loop .k)) (l .loop .inv .1)
+          ∙ ap (λ r. spreadTo r (l .loop .k) (length (l .before .before .args .rows .now))) (l .loop .inv .2)),
     )
 
 same-length : tie.Need-same-length Inv-loop μ-loop
