@@ -1,7 +1,7 @@
 -- One part after another, with room for each.
 use native.Mathlib.Omega.{arith}
 use borrow.Author.Needs.{needs}
-use Rattle.writing.proofs.Laws.Written.{written-then, written-long}
+use Rattle.writing.proofs.Laws.Written.{written-then}
 use Rattle.reaching.specs.Question.{reachLine}
 use Rattle.reaching.proofs.Laws.Lines.{field-short}
 use Rattle.reaching.proofs.answer.put_reach.Statement.{statement}
@@ -15,46 +15,19 @@ put-word-requires c κs = search needs
 
 put-field-requires : tie.Need-put-field-requires
 put-field-requires c κs =
-    let w = c .before .before .before in
-    let s = w .before .before .before .before in
-    (omega (arith, s .pre .0), omega (arith, field-short (s .args .from) (s .pre .0), s .pre .2, w .put-word .ensures .place, written-long (w .put-word .ensures)))
+    let s = c .before .before .before .before .before .before .before in
+    (omega (arith, s .pre .0), omega (arith, field-short (s .args .from) (s .pre .0)))
 
 put-field-requires-2 : tie.Need-put-field-requires-2
 put-field-requires-2 c κs =
-    let f = c .before .before .before in
-    let w = f .before .before .before .before in
-    let s = w .before .before .before .before in (
-      omega (arith, s .pre .1),
-      omega (
-        arith,
-        field-short (s .args .from) (s .pre .0),
-        field-short (s .args .to) (s .pre .1),
-        s .pre .2,
-        w .put-word .ensures .place,
-        written-long (w .put-word .ensures),
-        f .put-field .ensures .place,
-        written-long (f .put-field .ensures),
-      ),
-    )
+    let s = c .before .before .before .before .before .before .before .before .before .before .before in
+    (omega (arith, s .pre .1), omega (arith, field-short (s .args .from) (s .pre .0), field-short (s .args .to) (s .pre .1)))
 
 put-yes-requires : tie.Need-put-yes-requires
 put-yes-requires c κs =
-    let g = c .before .before .before in
-    let f = g .before .before .before .before in
-    let w = f .before .before .before .before in
+    let w = c .before .before .before .before .before .before .before .before .before .before .before in
     let s = w .before .before .before .before in
-    omega (
-      arith,
-      field-short (s .args .from) (s .pre .0),
-      field-short (s .args .to) (s .pre .1),
-      s .pre .2,
-      w .put-word .ensures .place,
-      written-long (w .put-word .ensures),
-      f .put-field .ensures .place,
-      written-long (f .put-field .ensures),
-      g .put-field2 .ensures .place,
-      written-long (g .put-field2 .ensures),
-    )
+    omega (arith, field-short (s .args .from) (s .pre .0), field-short (s .args .to) (s .pre .1))
 
 same-length : tie.Need-same-length
 same-length c = search needs

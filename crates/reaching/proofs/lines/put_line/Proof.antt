@@ -2,7 +2,7 @@
 use native.Mathlib.Omega.{arith}
 use borrow.Author.Needs.{needs}
 use Rattle.bits.specs.Masks.{has}
-use Rattle.writing.proofs.Laws.Written.{written-then, written-long}
+use Rattle.writing.proofs.Laws.Written.{written-then}
 use Rattle.reaching.proofs.Laws.Lines.{field-short, sources-short, line-parts}
 use Rattle.reaching.proofs.lines.put_line.Statement.{statement}
 use Rattle.reaching.proofs.lines.put_line.Tie as tie
@@ -15,48 +15,19 @@ put-word-requires c κs = search needs
 
 put-field-requires : tie.Need-put-field-requires
 put-field-requires c κs =
-    let w = c .before .before .before in
-    let s = w .before .before .before .before in (
-      omega (arith, s .pre .1),
-      omega (arith, field-short (s .args .t) (s .pre .1), s .pre .2, w .put-word .ensures .place, written-long (w .put-word .ensures)),
-    )
+    let s = c .before .before .before .before .before .before .before in
+    (omega (arith, s .pre .1), omega (arith, field-short (s .args .t) (s .pre .1)))
 
 put-sources-requires : tie.Need-put-sources-requires
 put-sources-requires c κs =
-    let f = c .before .before .before in
-    let w = f .before .before .before .before in
-    let s = w .before .before .before .before in (
-      s .pre .0,
-      omega (
-        arith,
-        field-short (s .args .t) (s .pre .1),
-        s .pre .2,
-        w .put-word .ensures .place,
-        written-long (w .put-word .ensures),
-        f .put-field .ensures .place,
-        written-long (f .put-field .ensures),
-      ),
-    )
+    let s = c .before .before .before .before .before .before .before .before .before .before .before in
+    (s .pre .0, omega (arith, field-short (s .args .t) (s .pre .1)))
 
 put-byte-requires : tie.Need-put-byte-requires
 put-byte-requires c κs =
-    let g = c .before .before .before in
-    let f = g .before .before .before .before in
-    let w = f .before .before .before .before in
-    let s = w .before .before .before .before in
-    omega (
-      arith,
-      field-short (s .args .t) (s .pre .1),
-      sources-short (has (s .args .row)) (s .args .segments) (s .pre .0),
-      s .pre .0,
-      s .pre .2,
-      w .put-word .ensures .place,
-      written-long (w .put-word .ensures),
-      f .put-field .ensures .place,
-      written-long (f .put-field .ensures),
-      g .put-sources .ensures .place,
-      written-long (g .put-sources .ensures),
-    )
+    let f = c .before .before .before .before .before .before .before in
+    let s = f .before .before .before .before .before .before .before .before in
+    omega (arith, field-short (s .args .t) (s .pre .1), sources-short (has (s .args .row)) (s .args .segments) (s .pre .0))
 
 same-length : tie.Need-same-length
 same-length c = search needs
