@@ -7,7 +7,7 @@ use native.Mathlib.Omega.{arith}
 use native.Mathlib.Decide.{decLt}
 use borrow.Author.Tests.{lt-ltb, le-ltb, le-leb, leb-true, leb-false}
 use lib.Dec.{ltb}
-use lib.ListN.{getD, replicate, getD-replicate, length-replicate, List·getD-eq-default}
+use lib.ListN.{getD, replicate, List·getD-eq-default}
 use Rattle.bits.specs.Masks.{has, maskOf}
 use Rattle.bits.proofs.Laws.Masks.{has-none, has-mask}
 use Rattle.bits.proofs.Laws.Sets.{has-below}
@@ -20,6 +20,7 @@ use Rattle.policy.specs.Tables.{Tables, viewOf}
 use Rattle.policy.specs.View.{View}
 use Rattle.policy.proofs.Lawful.{lawful}
 use Rattle.policy.proofs.Laws.Bools.{or-both, or-cases}
+use Rattle.policy.proofs.Laws.Zeros.{zero-at}
 use Rattle.calls.specs.Under.{Under, under}
 use Rattle.reach.specs.Via.{reaches}
 use Rattle.reach.specs.Rows.{thoseBelow, rowOf, rowMask, reportMasks}
@@ -32,11 +33,7 @@ other : {a b : Asked} → (askedNumber a ≡ askedNumber b → ⊥) → a ≡ b 
 other n e = n (ap askedNumber e)
 
 none-set : (n t s : ℕ) → has (getD (replicate n 0) t 0) s ≡ false
-none-set n t s = ap (λ (m : ℕ). has m s) (go (decLt t n)) ∙ has-none s
-  where
-    go : Dec (t < n) → _≡_ {A = ℕ} (getD (replicate n 0) t 0) 0
-    go (yes l) = getD-replicate n t 0 0 l
-    go (no l) = List·getD-eq-default (replicate n 0) 0 {n = t} (omega (arith, length-replicate {A = ℕ} n 0))
+none-set n t s = ap (λ (m : ℕ). has m s) (zero-at n t) ∙ has-none s
 
 module _ (limits : Limits) (v : View) (few : v .segments ≤ limits .segments) where
   masks-at : (t : ℕ) → getD (reportMasks limits v) t 0 ≡ rowMask v t
