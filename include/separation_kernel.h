@@ -11,10 +11,11 @@
 /* 2.0: rights and flows are masks; a record of 1.x does not fit.
  * 2.1: opcodes 13 and 14 load and store four bytes. Both were faults, so memory may now act otherwise under the same policy.
  * 2.2: a flow line into a save segment from a segment that its partition may not read is refused: the text by 16, the record by 10.
- * 2.3: sk_reach and sk_can_reach say who can reach whom, with 15 for a number that is no segment's. Nothing else moved. */
+ * 2.3: sk_reach and sk_can_reach say who can reach whom, with 15 for a number that is no segment's. Nothing else moved.
+ * 2.4: sk_sheet says how many ticks each partition has in one round, and how long it may be silent. Nothing else moved. */
 #define SEPARATION_KERNEL_VERSION_MAJOR 2
-#define SEPARATION_KERNEL_VERSION_MINOR 3
-#define SEPARATION_KERNEL_VERSION "2.3"
+#define SEPARATION_KERNEL_VERSION_MINOR 4
+#define SEPARATION_KERNEL_VERSION "2.4"
 
 /* The bytes of memory that Start, Pend and Run take, and the most bytes of a policy text. */
 #define SK_MEMORY_BYTES 16384
@@ -91,6 +92,11 @@ struct sk_answer {
     uint32_t number, yes; /* yes: 1 or 0 */
 };
 
+struct sk_sheet_result {
+    uint32_t number;
+    uint32_t ticks[8], silence[8]; /* of each partition */
+};
+
 /* Reads a policy text. Accepted: number 0, line 0 and its record. Refused: 1 to 8 or 16, the bad line counted from 1 (0 if it is no single line's
  * fault), and the record of zeros.
  *
@@ -126,6 +132,15 @@ struct sk_reach_result sk_reach(struct sk_policy policy);
 /* Can segment `from` reach segment `to`? It always agrees with the report: yes is bit `from` of sources[to]. It stops at the first chain found.
  * Refused: 10, and after it 15 if from or to isn't a segment. The answer is no then (0). */
 struct sk_answer sk_can_reach(struct sk_policy policy, uint32_t from, uint32_t to);
+
+/* The schedule sheet: for each partition its ticks in one round, and its longest silence, the most ticks in a row in which it isn't current.
+ *
+ * The schedule begins again after its last slot, so the stretch may go round the end. Current goes by the slot, whether the partition's program runs, waits
+ * or has halted. The ticks of all partitions add up to those of one round. Ticks 0 and silence 0 are a partition without a slot, which never runs; silence 0
+ * with ticks is one that has every slot and is always current (docs/POLICY.md, "How long a partition may be silent").
+ *
+ * Refused: 10. All ticks and silences are 0 then, and always those past the last partition. */
+struct sk_sheet_result sk_sheet(struct sk_policy policy);
 
 #ifdef __cplusplus
 }

@@ -3,8 +3,8 @@
 
     edge_runs.py ROOT     writes crates/runs/data/scenarios and crates/runs/stdout below the repository ROOT
 
-scenarios.py has the form of both files; the expected answers come from machine_reference.py and reach_reference.py. edge_words.py has the calls that move
-four bytes at once, edge_reach.py those that ask who can reach whom.
+scenarios.py has the form of both files; the expected answers come from machine_reference.py, reach_reference.py and sheet_reference.py. edge_words.py has
+the calls that move four bytes at once, edge_reach.py those that ask who can reach whom, edge_sheet.py those that ask for the schedule sheet.
 """
 import os
 import sys
@@ -12,6 +12,7 @@ import sys
 from edge_parts import ADD, AND, BACK, HALT, JUMP, LISTEN, LOAD, SET, SHIFT, STORE, SUB, WAIT, XOR
 from edge_parts import BENCH, DEMO, FULL, HIGH, SAVE, SCENARIOS, SELF, SHARED, TOP, add, bench, code, policy, save
 from edge_reach import add_reach
+from edge_sheet import add_sheets
 from edge_words import add_words
 from scenarios import write_all
 
@@ -283,6 +284,7 @@ for k in range(3):
 
 add_words()
 add_reach()
+add_sheets()
 
 
 def main(root):

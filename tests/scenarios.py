@@ -1,5 +1,5 @@
 """A scenario for the test program crates/runs: a policy, a memory and steps; how it is written to the program's file, and what the program must
-write. The expected answers come from machine_reference.py and reach_reference.py.
+write. The expected answers come from machine_reference.py, reach_reference.py and sheet_reference.py.
 
 In the file, a scenario is its name, filled up with spaces to 40 bytes, the memory's length in 10 digits, a space, the policy text's length in 10
 digits, a line end, and the text; then its steps. A step is a word, filled up with spaces to 8 bytes, and three numbers of 10 digits, parted by
@@ -7,6 +7,7 @@ spaces, with a line end. The last step is `end`. Words differ in their first let
 """
 import machine_reference as machine
 from reach_reference import can_reach, reach
+from sheet_reference import sheet
 
 # The fields of the policy record, by the numbers that `change` has for them.
 FIELDS = ["segments", "partitions", "slots", "base", "size", "code", "save", "owner", "ticks", "reads", "writes", "sources", "unused"]
@@ -72,6 +73,10 @@ class Scenario:
         """Whether segment s can reach segment t."""
         return self.step("query", s, t)
 
+    def sheet(self):
+        """The schedule sheet of the present record: each partition's ticks in one round, and its longest silence."""
+        return self.step("ticks")
+
     def encoded(self):
         out = [b"%s%010d %010d\n" % (self.name.encode().ljust(40), self.size, len(self.text)), self.text]
         for word, numbers, data in self.steps + [("end", [], b"")]:
@@ -110,6 +115,9 @@ class Scenario:
                 out.append(("masks", number, " ".join(str(mask) for mask in masks)))
             elif word == "query":
                 out.append(("query %d %d" % tuple(numbers), *can_reach(record, *numbers)))
+            elif word == "ticks":
+                number, ticks, silence = sheet(record)
+                out.append(("ticks", number, " ".join(str(n) for n in ticks), " ".join(str(n) for n in silence)))
         # All of memory, as one number of base 256, modulo the largest prime below 2 to the power 32.
         out.append(("end", int.from_bytes(memory, "big") % 4294967291))
         return "".join("\t".join([self.name] + [str(field) for field in line]) + "\n" for line in out).encode()

@@ -1,5 +1,5 @@
-/* Reads a policy (the demonstration, or the file named), asks who can reach the last partition, starts, puts a program of three instructions into
- * segment 0, pends a line, runs, and prints what came of it.
+/* Reads a policy (the demonstration, or the file named), asks who can reach the last partition and how long each may be silent, starts, puts a program
+ * of three instructions into segment 0, pends a line, runs, and prints what came of it.
  *
  *     cc -std=c11 -Iinclude examples/c/example.c target/staticlib/libboundary.a -o example */
 #include "separation_kernel.h"
@@ -11,6 +11,7 @@
 _Static_assert(sizeof(struct sk_policy) == 436, "the record has the layout that the library expects");
 _Static_assert(sizeof(struct sk_run_result) == 12, "so has the answer of a Run");
 _Static_assert(sizeof(struct sk_reach_result) == 132, "and the report on who can reach whom");
+_Static_assert(sizeof(struct sk_sheet_result) == 68, "and the schedule sheet");
 
 static const char demonstration[] =
     "segment\t0\t0\t64\nsegment\t1\t64\t44\nsegment\t2\t128\t64\nsegment\t3\t192\t44\nsegment\t4\t256\t16\n"
@@ -54,6 +55,16 @@ static void print_sources(struct sk_policy policy, unsigned segment)
     print_segments("flow into", segment, policy.sources[segment]);
     print_segments("can reach", segment, reach.sources[segment]);
     printf("can segment 0 reach segment %u: %u, %s\n", segment, (unsigned)answer.number, answer.yes ? "yes" : "no");
+}
+
+/* Each partition's ticks in one round, and the most ticks in a row in which it isn't current. */
+static void print_sheet(struct sk_policy policy)
+{
+    struct sk_sheet_result sheet = sk_sheet(policy);
+
+    printf("schedule sheet: %u\n", (unsigned)sheet.number);
+    for (unsigned p = 0; p < policy.partitions; p++)
+        printf("partition %u: %u ticks in one round, longest silence %u\n", p, (unsigned)sheet.ticks[p], (unsigned)sheet.silence[p]);
 }
 
 /* One byte more than a text may have, so that a longer file is refused as such. */
@@ -112,6 +123,7 @@ int main(int count, char **words)
     for (unsigned p = 0; p < policy.partitions; p++)
         print_masks(&policy, p);
     print_sources(policy, policy.save[policy.partitions - 1]);
+    print_sheet(policy);
     run_program(policy);
     return 0;
 }

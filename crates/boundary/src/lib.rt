@@ -12,7 +12,8 @@ ghost use Rattle.calls.specs.Start.{startAnswer, afterStart};
 ghost use Rattle.calls.specs.Pend.{pendOutcome, afterPend};
 ghost use Rattle.calls.specs.Run.{stateOf, runAnswer, afterRun};
 ghost use Rattle.reach.specs.Answers.{reachAnswer, canReachAnswer};
-ghost use Rattle.boundary.specs.Results.{Tells, runResult, reachResult, questionResult};
+ghost use Rattle.sheet.specs.Answer.{sheetAnswer};
+ghost use Rattle.boundary.specs.Results.{Tells, runResult, reachResult, questionResult, sheetResult};
 use machine::Place;
 use policy::Policy;
 
@@ -43,6 +44,14 @@ pub struct ReachResult {
 pub struct QuestionResult {
     pub number: u32,
     pub yes: u32,
+}
+
+// struct sk_sheet_result
+#[repr(C)]
+pub struct SheetResult {
+    pub number: u32,
+    pub ticks: [u32; 8],
+    pub silence: [u32; 8],
 }
 
 #[no_mangle]
@@ -124,5 +133,20 @@ pub extern "C" fn sk_can_reach(policy: Policy, from: u32, to: u32) -> QuestionRe
     QuestionResult {
         number: reach::asked_number(asked),
         yes: if answer.yes { 1 } else { 0 },
+    }
+}
+
+#[no_mangle]
+pub extern "C" fn sk_sheet(policy: Policy) -> SheetResult
+    ensures { λ r. ⌜ r ≡ sheetResult (sheetAnswer (underPolicy policy)) ⌝ }
+{
+    let sheet = sheet::sheet_of(policy);
+    let asked = sheet.asked;
+    let ticks = sheet.ticks;
+    let silence = sheet.silence;
+    SheetResult {
+        number: reach::asked_number(asked),
+        ticks,
+        silence,
     }
 }

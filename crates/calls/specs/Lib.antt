@@ -1,5 +1,5 @@
 -- In reading order: what the operations ask of a record, what they answer, the three operations, lists of calls, the separation that demand 3
--- asks, and the machine with fewer opcodes.
+-- asks, the machine with fewer opcodes, and which partition is current after so many ticks.
 pub mod Under
 pub mod Outcomes
 pub mod Start
@@ -8,3 +8,4 @@ pub mod Run
 pub mod Lists
 pub mod Separation
 pub mod Older
+pub mod Current

@@ -3,3 +3,4 @@ pub mod Numbers
 pub mod Opcodes
 pub mod Tests
 pub mod Places
+pub mod Positions

@@ -4,6 +4,7 @@ use Prim.Native.Nat.{ℕ, _+_}
 use mathlib.Core.Bool.{Bool, _&&_, cond}
 use lib.Dec.{ltb}
 use Rattle.policy.specs.View.{View}
+use Rattle.policy.specs.Schedule.{ticksBefore}
 use Rattle.machine.specs.declared.Place.{Place}
 
 abbrev pub placeOf : ℕ → ℕ → Place
@@ -12,6 +13,10 @@ placeOf slot used = record { slot = slot; used = used }
 -- A place that refusal 13 lets pass; 13: "slot not in the schedule, or ticks used at or past the slot's"
 unfoldable pub isPlace : View → Place → Bool
 isPlace v place = ltb (place .slot) (v .slots) && ltb (place .used) (v .ticks (place .slot))
+
+-- The ticks of the round before a place.
+abbrev pub position : View → Place → ℕ
+position v place = ticksBefore v (place .slot) + place .used
 
 unfoldable pub moved : View → Place → Place
 moved v place =

@@ -54,6 +54,13 @@ fn is_reach(text: &[u8], header: &[u8], block: &[u8]) -> bool {
     is_answer(text, &words[..n], block)
 }
 
+// Whether a block is what policysheet writes of a text.
+fn is_sheet(text: &[u8], block: &[u8]) -> bool {
+    let mut out = [0u8; 204];
+    let n = io::count(sheeting::sheet_on(text, &mut out) as isize, &out);
+    same(&out[..n], block)
+}
+
 // A policy block. The last one that is accepted is what the lines after it are about.
 fn on_policy(text: &[u8], header: &[u8], from: usize, to: usize, seen: Seen) -> Seen {
     let mut next = seen;
@@ -84,6 +91,10 @@ pub(crate) fn on_block(text: &[u8], to: usize, closed: bool, seen: Seen) -> Seen
     }
     if closed & same(first, b"```reach") {
         show_verdict(is_reach(base, header, part(text, from, to)), seen.line);
+        return seen;
+    }
+    if closed & same(header, b"```sheet") {
+        show_verdict(is_sheet(base, part(text, from, to)), seen.line);
         return seen;
     }
     if closed & (same(header, b"```lines") | same(header, b"```program")) {

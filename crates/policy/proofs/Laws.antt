@@ -1,6 +1,10 @@
 pub mod Bools
 pub mod Below
 pub mod Exchange
+pub mod Sums
+pub mod Lists
+pub mod Rounds
+pub mod Slots
 pub mod Loops
 pub mod Tests
 pub mod First

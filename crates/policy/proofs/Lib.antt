@@ -8,4 +8,6 @@ pub mod Kept
 pub mod Accepted
 pub mod Readings
 pub mod DecimalTexts
+pub mod Longest
+pub mod Schedule
 pub mod Fewer

@@ -10,6 +10,10 @@ askedNumber Answered = 0
 askedNumber Unsound = 10
 askedNumber NoSegment = 15
 
+-- "Refused: 10", and nothing else is.
+abbrev pub soundAsked : Bool → Asked
+soundAsked sound = cond sound Answered Unsound
+
 abbrev pub isAnswered : Asked → Bool
 isAnswered Answered = true
 isAnswered Unsound = false

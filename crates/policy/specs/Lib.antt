@@ -5,6 +5,7 @@ pub mod Limits
 pub mod View
 pub mod Access
 pub mod Schedule
+pub mod Silence
 pub mod Chain
 -- The rules for a line, 3 to 5, and for the whole policy, 6 to 8 and 16; rule 8 by target.
 pub mod Order

@@ -21,12 +21,13 @@ use Rattle.policy.specs.View.{View}
 use Rattle.policy.proofs.Lawful.{lawful}
 use Rattle.policy.proofs.Laws.Bools.{or-both, or-cases}
 use Rattle.policy.proofs.Laws.Zeros.{zero-at}
+use Rattle.policy.proofs.Laws.Lists.{list-long, list-at, list-same}
 use Rattle.calls.specs.Under.{Under, under}
 use Rattle.reach.specs.Via.{reaches}
 use Rattle.reach.specs.Rows.{thoseBelow, rowOf, rowMask, reportMasks}
 use Rattle.reach.specs.Answers.{reachAsked, reachAnswer, canReachAsked, canReachAnswer}
 use Rattle.reach.specs.Exact.{MaskExact, MasksReport, Agrees}
-use Rattle.reach.proofs.Laws.Rows.{list-long, list-at, list-same, those-pass, those-hold, those-same}
+use Rattle.reach.proofs.Laws.Rows.{those-pass, those-hold, those-same}
 
 -- Answers with other numbers differ.
 other : {a b : Asked} → (askedNumber a ≡ askedNumber b → ⊥) → a ≡ b → ⊥

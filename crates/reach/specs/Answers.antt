@@ -6,7 +6,7 @@ use mathlib.Core.List.{[], _∷_}
 use lib.ListN.{replicate}
 use Rattle.policy.specs.declared.record.Asked.{Asked}
 use Rattle.policy.specs.declared.record.Asked.the-variants.{Answered, Unsound, NoSegment}
-use Rattle.policy.specs.Asked.{answers}
+use Rattle.policy.specs.Asked.{soundAsked, answers}
 use Rattle.policy.specs.First.{firstOf}
 use Rattle.policy.specs.Range.{noSegment}
 use Rattle.calls.specs.Under.{Under}
@@ -18,7 +18,7 @@ use Rattle.reach.specs.declared.Report.{Report}
 
 -- The report is one for all segments, so 15 is never its answer.
 unfoldable pub reachAsked : Under → Asked
-reachAsked u = firstOf Answered (record { applies = unsound u; answer = Unsound } ∷ [])
+reachAsked u = soundAsked (u .sound)
 
 -- "report empty": no bit in any mask
 unfoldable pub reachAnswer : Under → Report

@@ -7,12 +7,13 @@ use mathlib.Core.List.{List, [], _∷_, List·Memᴰ}
 use lib.ListN.{getD}
 use Rattle.bits.specs.Masks.{has}
 use Rattle.policy.specs.declared.record.Asked.the-variants.{Answered, Unsound, NoSegment}
+use Rattle.policy.specs.Below.{listBelow}
 use Rattle.policy.specs.View.{View}
 use Rattle.policy.specs.Chain.{Chain}
 use Rattle.calls.specs.Under.{Under}
 use Rattle.calls.specs.Lists.{Source}
 use Rattle.reach.specs.Via.{reaches}
-use Rattle.reach.specs.Rows.{thoseBelow, listBelow, rowOf, reportOf}
+use Rattle.reach.specs.Rows.{thoseBelow, rowOf, reportOf}
 use Rattle.reach.specs.Answers.{reachAnswer, canReachAnswer}
 
 -- "A chain may have any length, and the report must be exact." The chain is document 01's, the one that demand 3 speaks of.

@@ -5,6 +5,7 @@ use mathlib.Core.Bool.{Bool, cond}
 use mathlib.Core.List.{List, [], _∷_, _++_}
 use lib.Dec.{ltb}
 use Rattle.bits.specs.Masks.{maskOf}
+use Rattle.policy.specs.Below.{listBelow}
 use Rattle.policy.specs.Limits.{Limits}
 use Rattle.policy.specs.View.{View}
 use Rattle.reach.specs.Via.{reaches}
@@ -13,11 +14,6 @@ use Rattle.reach.specs.Via.{reaches}
 unfoldable pub thoseBelow : ℕ → (ℕ → Bool) → List ℕ
 thoseBelow zero test = []
 thoseBelow (suc n) test = thoseBelow n test ++ cond (test n) (n ∷ []) []
-
--- What the numbers below n are given, in order.
-unfoldable pub listBelow : {A : Type 0} → ℕ → (ℕ → A) → List A
-listBelow zero given = []
-listBelow (suc n) given = listBelow n given ++ (given n ∷ [])
 
 -- "for each segment, all segments from which a chain .. leads to it, ascending"
 abbrev pub rowOf : View → ℕ → List ℕ

@@ -3,6 +3,7 @@
 mod memory;
 mod reaching;
 mod record;
+mod ticks;
 
 use crate::memory::fill;
 use crate::memory::look;
@@ -10,6 +11,7 @@ use crate::memory::number_of;
 use crate::reaching::show_masks;
 use crate::reaching::show_reach;
 use crate::record::changed;
+use crate::ticks::show_sheet;
 use bytes::byte_at;
 use calls::Placed;
 use machine::Place;
@@ -30,7 +32,8 @@ use script::word;
 fn show_call(name: &[u8], line: &[u8], call: u8) {
     let both = (call == b'p') | (call == b'l') | (call == b'q');
     let one = both | (call == b'r');
-    if one | (call == b's') | (call == b'm') | (call == b'e') {
+    let none = (call == b's') | (call == b'm') | (call == b't') | (call == b'e');
+    if one | none {
         show(name);
         show(b"\t");
         show(word(line, 0));
@@ -110,6 +113,9 @@ fn step(
     show_call(name, line, call);
     if call == b'm' {
         show_masks(policy);
+    }
+    if call == b't' {
+        show_sheet(policy);
     }
     if call == b'q' {
         show_reach(policy, number_in(line, 1), number_in(line, 2));

@@ -20,4 +20,4 @@ pub use pieces::same;
 pub use pieces::word;
 
 // More bytes than the longest file has.
-pub const FILE: usize = 524288;
+pub const FILE: usize = 655360;

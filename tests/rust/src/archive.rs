@@ -1,11 +1,11 @@
 //! The proved kernel, linked from the static library through its C boundary; for the benchmark also an earlier one, whose functions have been renamed.
 
-use crate::boundary::{Answer, Kernel, Place, Policy, ReachResult, ReadResult, RunResult};
+use crate::boundary::{Answer, Kernel, Place, Policy, ReachResult, ReadResult, RunResult, SheetResult};
 
-/// A kernel behind the functions of a static library, which have this prefix. Where the condition does not hold, the library is an earlier one without
-/// sk_reach and sk_can_reach: they answer a number that no kernel has.
+/// A kernel behind the functions of a static library, which have this prefix. Where a condition does not hold, the library is an earlier one without
+/// sk_reach and sk_can_reach, or without sk_sheet: they answer a number that no kernel has.
 macro_rules! linked {
-    ($kernel:ident, $name:literal, $library:literal, $prefix:literal, $reaches:meta) => {
+    ($kernel:ident, $name:literal, $library:literal, $prefix:literal, $reaches:meta, $sheets:meta) => {
         pub struct $kernel;
 
         const _: () = {
@@ -28,6 +28,9 @@ macro_rules! linked {
                 #[cfg($reaches)]
                 #[link_name = concat!($prefix, "sk_can_reach")]
                 fn sk_can_reach(policy: Policy, from: u32, to: u32) -> Answer;
+                #[cfg($sheets)]
+                #[link_name = concat!($prefix, "sk_sheet")]
+                fn sk_sheet(policy: Policy) -> SheetResult;
             }
 
             // Named here so that a new library is linked anew.
@@ -69,12 +72,20 @@ macro_rules! linked {
                 fn can_reach(&self, _: &Policy, _: u32, _: u32) -> Answer {
                     Answer::refused(u32::MAX)
                 }
+                #[cfg($sheets)]
+                fn sheet(&self, policy: &Policy) -> SheetResult {
+                    unsafe { sk_sheet(*policy) }
+                }
+                #[cfg(not($sheets))]
+                fn sheet(&self, _: &Policy) -> SheetResult {
+                    SheetResult::refused(u32::MAX)
+                }
             }
         };
     };
 }
 
-linked!(Archive, "archive", "boundary", "", all());
+linked!(Archive, "archive", "boundary", "", all(), all());
 
 #[cfg(feature = "before")]
-linked!(Before, "before", "before", "before_", feature = "before-reaches");
+linked!(Before, "before", "before", "before_", feature = "before-reaches", feature = "before-sheets");

@@ -148,6 +148,21 @@ impl Answer {
     }
 }
 
+/// The schedule sheet: of each partition its ticks in one round, and the longest stretch of ticks in which it isn't current.
+#[repr(C)]
+#[derive(Clone, Copy, PartialEq, Eq, Debug)]
+pub struct SheetResult {
+    pub number: u32,
+    pub ticks: [u32; 8],
+    pub silence: [u32; 8],
+}
+
+impl SheetResult {
+    pub const fn refused(number: u32) -> SheetResult {
+        SheetResult { number, ticks: [0; 8], silence: [0; 8] }
+    }
+}
+
 /// What the C boundary offers.
 pub trait Kernel {
     fn name(&self) -> &'static str;
@@ -159,4 +174,5 @@ pub trait Kernel {
     fn run(&self, policy: &Policy, memory: &mut [u8], place: Place, ticks: u32) -> RunResult;
     fn reach(&self, policy: &Policy) -> ReachResult;
     fn can_reach(&self, policy: &Policy, from: u32, to: u32) -> Answer;
+    fn sheet(&self, policy: &Policy) -> SheetResult;
 }

@@ -1,8 +1,10 @@
 //! Holds a kernel to the reference, and counts what the generated inputs have reached.
 
 mod reach;
+mod sheet;
 
 pub use reach::{reach_difference, Wanted, PAST, REACH_CASES};
+pub use sheet::{broken_law, moves_too_far, sheet_difference, WantedSheet, SHEET_CASES};
 
 use crate::boundary::{Kernel, Place, Policy, MEMORY};
 use crate::generate::lists::{Call, List, Step};

@@ -1,4 +1,4 @@
-//! Random policies, graphs of flows, texts, records, programs, memories, call lists and arguments. The same seed gives the same ones.
+//! Random policies, graphs of flows, schedules, texts, records, programs, memories, call lists and arguments. The same seed gives the same ones.
 
 pub mod arguments;
 mod flows;
@@ -10,5 +10,6 @@ pub mod numbers;
 pub mod policies;
 pub mod programs;
 pub mod records;
+pub mod schedules;
 pub mod texts;
 pub mod workloads;

@@ -153,7 +153,7 @@ impl Kernel for Leaky {
     fn name(&self) -> &'static str {
         "leaky"
     }
-    as_reference!(read, start, reach, can_reach);
+    as_reference!(read, start, reach, can_reach, sheet);
     fn sound(&self, policy: &Policy) -> u32 {
         (self.0 == Leak::RuleEightWithoutSave || reference::sound(policy)) as u32
     }

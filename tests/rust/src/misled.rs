@@ -1,5 +1,7 @@
 //! Kernels that are wrong about who can reach whom, one way each: the comparison has to find every one of them.
 
+pub mod sheet;
+
 use crate::as_reference;
 use crate::boundary::{has, Answer, Kernel, Policy, ReachResult};
 use crate::tuned::{can_reach, reach, sound};
@@ -136,7 +138,7 @@ impl Kernel for Misled {
     fn name(&self) -> &'static str {
         "misled"
     }
-    as_reference!(read, sound, start, pend, run);
+    as_reference!(read, sound, start, pend, run, sheet);
 
     fn reach(&self, policy: &Policy) -> ReachResult {
         let right = reach(policy);

@@ -9,13 +9,15 @@ mod reach;
 mod reader;
 mod record;
 mod report;
+mod sheet;
 
 pub use calls::{pend, run, run_watched, start};
 pub use machine::{next_place, tick, Event, COUNTER, ENABLED, FAULT, HANDLER, IN_HANDLER, OPCODES, PENDED, RETURN, SAVE, STATE, UNUSED};
 pub use reach::{answer, can_reach, reach};
 pub use reader::{judge, judge_without_16, read, Refusal};
 pub use record::{asked, print, readable, sound, sources, writable, Lines};
-pub use report::{policyreach, report, USAGE};
+pub use report::{policyreach, policysheet, report, USAGE};
+pub use sheet::sheet;
 
 use crate::boundary::Kernel;
 
@@ -63,6 +65,11 @@ macro_rules! as_reference {
             $crate::reference::can_reach(policy, from, to)
         }
     };
+    (sheet) => {
+        fn sheet(&self, policy: &$crate::boundary::Policy) -> $crate::boundary::SheetResult {
+            $crate::reference::sheet(policy)
+        }
+    };
     ($($call:ident),+) => {
         $($crate::as_reference!($call);)+
     };
@@ -74,5 +81,5 @@ impl Kernel for Reference {
     fn name(&self) -> &'static str {
         "reference"
     }
-    as_reference!(read, sound, start, pend, run, reach, can_reach);
+    as_reference!(read, sound, start, pend, run, reach, can_reach, sheet);
 }

@@ -4,12 +4,14 @@
 mod reach;
 mod reader;
 mod record;
+mod sheet;
 
 pub use reach::{can_reach, reach};
 pub use reader::read;
 pub use record::sound;
+pub use sheet::sheet;
 
-use crate::boundary::{Answer, Kernel, Place, Policy, ReachResult, ReadResult, RunResult, MEMORY};
+use crate::boundary::{Answer, Kernel, Place, Policy, ReachResult, ReadResult, RunResult, SheetResult, MEMORY};
 
 pub struct Tuned;
 
@@ -37,6 +39,9 @@ impl Kernel for Tuned {
     }
     fn can_reach(&self, policy: &Policy, from: u32, to: u32) -> Answer {
         can_reach(policy, from, to)
+    }
+    fn sheet(&self, policy: &Policy) -> SheetResult {
+        sheet(policy)
     }
 }
 

@@ -1,6 +1,6 @@
 //! The cases of the scope document and of the change requests, on the reference and on each kernel.
 
-use separation::boundary::{Answer, Kernel, Place, Policy, ReachResult, ReadResult, RunResult, MEMORY, RECORD};
+use separation::boundary::{Answer, Kernel, Place, Policy, ReachResult, ReadResult, RunResult, SheetResult, MEMORY, RECORD};
 use separation::compare::text_difference;
 use separation::generate::mutations::{join, split};
 use separation::generate::numbers::{is_place, rewrite};
@@ -31,6 +31,7 @@ fn types_have_the_layout_of_c() {
     assert_eq!(std::mem::size_of::<RunResult>(), 12);
     assert_eq!((std::mem::size_of::<ReachResult>(), offset_of!(ReachResult, sources)), (132, 4));
     assert_eq!((std::mem::size_of::<Answer>(), offset_of!(Answer, yes)), (8, 4));
+    assert_eq!((std::mem::size_of::<SheetResult>(), offset_of!(SheetResult, ticks), offset_of!(SheetResult, silence)), (68, 4, 36));
     // Each entry begins where the one before ends.
     let entries = [
         (offset_of!(Policy, segments), 1),

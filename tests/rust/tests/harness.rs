@@ -40,7 +40,7 @@ impl Kernel for Wrong {
         }
         answer
     }
-    as_reference!(sound, start, pend, reach, can_reach);
+    as_reference!(sound, start, pend, reach, can_reach, sheet);
     fn run(&self, policy: &Policy, memory: &mut [u8], place: Place, ticks: u32) -> RunResult {
         let enabled: Vec<usize> = (0..8).map(|p| policy.base[policy.save[p] as usize % 32] as usize + ENABLED).collect();
         let before: Vec<u8> = enabled.iter().map(|&at| memory.get(at).copied().unwrap_or(0)).collect();
@@ -123,7 +123,7 @@ impl Kernel for Sources {
     fn name(&self) -> &'static str {
         "wrong sources"
     }
-    as_reference!(reach, can_reach);
+    as_reference!(reach, can_reach, sheet);
     fn read(&self, text: &[u8]) -> ReadResult {
         match (judge(text), judge_without_16(text)) {
             (Err(refusal), _) if *self == Sources::BeforeEight && refusal.also.contains(&16) => refused(16, 0),

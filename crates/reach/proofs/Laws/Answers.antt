@@ -19,9 +19,9 @@ use Rattle.policy.proofs.Entries.{good, lengths, fit}
 use Rattle.policy.proofs.Lawful.{lawful}
 use Rattle.policy.proofs.Laws.Bools.{not-so}
 use Rattle.policy.proofs.Laws.Tests.{parts, flow-there}
+use Rattle.policy.proofs.Laws.Lists.{list-long, list-at}
 use Rattle.reach.specs.Rows.{rowMask, reportMasks}
 use Rattle.reach.specs.Spread.{spreadUp}
-use Rattle.reach.proofs.Laws.Rows.{list-long, list-at}
 use Rattle.reach.proofs.Laws.Spread.{up-long, up-none, up-via}
 
 module _ (limits : Limits) (t : Tables) (h : soundOf limits t ≡ true) where

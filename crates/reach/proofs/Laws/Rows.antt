@@ -1,4 +1,4 @@
--- A list of the numbers that pass a test holds just those, ascending; a list of what numbers are given has each at its place.
+-- A list of the numbers that pass a test holds just those, ascending.
 use Prim.Native.Nat.{ℕ, zero, suc, _<_}
 use mathlib.Core.Path.{_≡_, refl, sym, ap, _∙_}
 use mathlib.Core.Bool.{Bool, true, false, cond}
@@ -9,7 +9,7 @@ use native.Mathlib.Omega.{arith}
 use native.Mathlib.Decide.{decLt}
 use lib.ListN.{length, getD, length-append, List·getD-append}
 use lib.Seq.{getD-at}
-use Rattle.reach.specs.Rows.{thoseBelow, listBelow}
+use Rattle.reach.specs.Rows.{thoseBelow}
 use Rattle.reach.specs.Exact.{Ascending, none, then}
 
 module _ (test : ℕ → Bool) where
@@ -63,23 +63,3 @@ pub those-same : (f g : ℕ → Bool) (n : ℕ) → ((s : ℕ) → s < n → f s
 unfolding thoseBelow
 those-same f g zero h = refl
 those-same f g (suc n) h = rw (those-same f g n (λ s l. h s (omega arith)), h n (omega arith))
-
-pub list-same : {A : Type 0} (f g : ℕ → A) (n : ℕ) → ((s : ℕ) → s < n → f s ≡ g s) → listBelow n f ≡ listBelow n g
-unfolding listBelow
-list-same f g zero h = refl
-list-same f g (suc n) h = rw (list-same f g n (λ s l. h s (omega arith)), h n (omega arith))
-
-module _ {A : Type 0} (given : ℕ → A) where
-  pub list-long : (n : ℕ) → length (listBelow n given) ≡ n
-  unfolding listBelow
-  list-long zero = refl
-  list-long (suc n) = rw (length-append, list-long n) (omega arith)
-
-  pub list-at : (n i : ℕ) (d : A) → i < n → getD (listBelow n given) i d ≡ given i
-  unfolding listBelow
-  list-at zero i d l = absurd (omega arith)
-  list-at (suc n) i d l = go (decLt i n) (list-at n i d)
-    where
-      go : Dec (i < n) → (i < n → getD (listBelow n given) i d ≡ given i) → getD (listBelow (suc n) given) i d ≡ given i
-      go (yes m) before = List·getD-append (listBelow n given) (given n ∷ []) d i (rw (list-long n) m) ∙ before m
-      go (no m) before = let q : i ≡ n = omega arith in rw q (getD-at (listBelow n given) (given n) [] d n (list-long n))

@@ -7,22 +7,18 @@ use native.Mathlib.Nat.{zero-add, add-zero, add-suc, suc-add}
 use native.Mathlib.Numerals.{add-one}
 use native.Mathlib.Omega.{arith}
 use lib.ListN.{length, getD, length-append}
-use lib.Seq.{sets}
 use Rattle.bits.specs.Masks.{has}
 use Rattle.text.specs.Bytes.{bytesOf}
 use Rattle.text.specs.Cut.{lineEnd}
+use Rattle.policy.specs.Below.{listBelow}
+use Rattle.policy.proofs.Laws.Lists.{list-long}
 use Rattle.writing.specs.Row.{field, fields}
 use Rattle.writing.specs.Written.{Written}
 use Rattle.writing.proofs.Laws.Digits.{digits-width}
 use Rattle.writing.proofs.Laws.Row.{fields-append, numbers-fields}
-use Rattle.writing.proofs.Laws.Written.{written-then, written-whole}
-use Rattle.reach.specs.Rows.{thoseBelow, listBelow}
-use Rattle.reach.proofs.Laws.Rows.{list-long}
+use Rattle.writing.proofs.Laws.Written.{written-then}
+use Rattle.reach.specs.Rows.{thoseBelow}
 use Rattle.reaching.specs.Report.{segmentLine, segmentLines}
-
--- What is written from the buffer's start on, where it is short enough.
-pub within : {l m b : List ℕ} {r : ℕ} → Written l 0 b m r → length b ≤ 3424 → (r ≡ length b) × (r ≤ 3424) × (m ≡ sets l 0 b)
-within w h = let all = written-whole w in (all .0, omega (arith, all .0), all .1)
 
 -- A segment's number has at most two digits.
 pub field-short : (s : ℕ) → s < 32 → length (field s) ≤ 3

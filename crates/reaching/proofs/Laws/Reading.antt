@@ -1,40 +1,21 @@
--- What reading a text gives: a refusal's line is short, and an accepted text's record is sound.
-use Prim.Native.Nat.{ℕ, _≤_, _<_}
-use mathlib.Core.Path.{_≡_, sym, ap, _∙_}
+-- The report on a text that is refused, and on one that is accepted.
+use Prim.Native.Nat.{ℕ}
+use mathlib.Core.Path.{_≡_}
 use mathlib.Core.Bool.{true, false}
 use mathlib.Core.List.{List}
-use native.Mathlib.Omega.{arith}
-use lib.ListN.{length}
 use Rattle.policy.specs.Limits.{single}
 use Rattle.policy.specs.Tables.{viewOf}
-use Rattle.policy.specs.Refusals.{isAccepted, lineNumberOf}
+use Rattle.policy.specs.Refusals.{isAccepted}
 use Rattle.policy.specs.Read.{Answer, readOf}
-use Rattle.policy.specs.Sound.{soundOf}
-use Rattle.policy.proofs.Accepted.{accepted}
-use Rattle.policy.proofs.Readings.{line-named, accepted-sound}
 use Rattle.report.specs.Report.{refusedRow}
-use Rattle.report.proofs.Laws.Rows.{refused-length, number-small}
 use Rattle.reach.specs.Rows.{reportOf}
 use Rattle.reaching.specs.Report.{segmentLines, reachLines, reachReportOf}
 
 module _ (text : List ℕ) {a : Answer} (read : a ≡ readOf single text) where
-  pub named-short : lineNumberOf (a .refusal) < 100000
-  named-short = rw (ap (λ a. lineNumberOf (a .refusal)) read) (omega (arith, line-named single text))
-
-  pub refused-fits : length (refusedRow (a .refusal)) ≤ 17
-  unfolding refusedRow
-  refused-fits = refused-length _ _ (number-small (a .refusal)) named-short
-
   pub report-refused : isAccepted (a .refusal) ≡ false → reachReportOf single text ≡ refusedRow (a .refusal)
   unfolding reachReportOf reachLines
   report-refused h = rw (← read, h)
 
-  module _ (h : isAccepted (a .refusal) ≡ true) where
-    pub report-accepted : reachReportOf single text ≡ segmentLines 0 (reportOf (viewOf (a .tables)))
-    unfolding reachReportOf reachLines
-    report-accepted = rw (← read, h)
-
-    pub sound-read : soundOf single (a .tables) ≡ true
-    sound-read =
-        ap (λ a. soundOf single (a .tables)) read
-        ∙ accepted single (readOf single text .tables) (accepted-sound single text (sym (ap (λ a. isAccepted (a .refusal)) read) ∙ h))
+  pub report-accepted : isAccepted (a .refusal) ≡ true → reachReportOf single text ≡ segmentLines 0 (reportOf (viewOf (a .tables)))
+  unfolding reachReportOf reachLines
+  report-accepted h = rw (← read, h)

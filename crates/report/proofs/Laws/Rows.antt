@@ -11,7 +11,7 @@ use Rattle.policy.specs.View.{View}
 use Rattle.policy.specs.Schedule.{roundTicks}
 use Rattle.policy.specs.Tables.{Tables, viewOf}
 use Rattle.policy.specs.Refusals.{numberOf}
-use Rattle.schedule.proofs.Laws.Sums.{sum-most}
+use Rattle.policy.proofs.Laws.Sums.{sum-most}
 use Rattle.report.specs.Report.{acceptedRow, segmentRow, segmentRows}
 use Rattle.report.specs.Reportable.{Countable}
 use Rattle.report.specs.Rows.{segmentWith, rowsIn, refusedWith}

@@ -1,5 +1,5 @@
 -- Bytes written one after the other are those of both written at once: by induction on the first.
-use Prim.Native.Nat.{ℕ, suc, _+_}
+use Prim.Native.Nat.{ℕ, suc, _+_, _≤_}
 use mathlib.Core.Path.{_≡_, refl, sym, ap, _∙_}
 use mathlib.Core.List.{List, [], _∷_, _++_}
 use native.Mathlib.Nat.{add-zero, add-suc, suc-add}
@@ -28,6 +28,10 @@ written-long {l} {m} {b} {at} w = ap length (w .text) ∙ length-sets l at b
 -- From the buffer's start on.
 pub written-whole : {l m b : List ℕ} {r : ℕ} → Written l 0 b m r → (r ≡ length b) × (m ≡ sets l 0 b)
 written-whole {l} {m} {b} {r} w = (omega arith, w .text)
+
+-- The same into a buffer of so many bytes.
+pub written-within : {l m b : List ℕ} {r most : ℕ} → Written l 0 b m r → length b ≤ most → (r ≡ length b) × (r ≤ most) × (m ≡ sets l 0 b)
+written-within w h = let all = written-whole w in (all .0, omega (arith, all .0), all .1)
 
 -- Some bytes are written from a place on, and the rest is ahead.
 pub record Ahead (before : List ℕ) (at : ℕ) (bytes after : List ℕ) (next : ℕ) (rest : List ℕ) : Type 0 where

@@ -1,16 +1,17 @@
-//! Compares each kernel with the reference on random texts, records, graphs of flows and call lists, and the programs with what the reference writes.
-//! Exits with 1 at the first difference, after shortening it.
+//! Compares each kernel with the reference on random texts, records, graphs of flows, schedules and call lists, and the programs with what the reference
+//! writes. Exits with 1 at the first difference, after shortening it.
 //!
-//!     differential [--seed N] [--texts N] [--records N] [--graphs N] [--lists N] [--policycheck PATH] [--policyreach PATH] [--reports N]
+//!     differential [--seed N] [--texts N] [--records N] [--graphs N] [--schedules N] [--lists N]
+//!                  [--policycheck PATH] [--policyreach PATH] [--policysheet PATH] [--reports N]
 
 use separation::boundary::{Kernel, Policy, RECORD};
-use separation::compare::{bytes_sound, list_difference, reach_difference, record_difference, text_difference, text_gives};
-use separation::compare::{Reached, Wanted, LIST_CASES, REACH_CASES, TEXT_CASES};
+use separation::compare::{bytes_sound, list_difference, moves_too_far, reach_difference, record_difference, sheet_difference, text_difference};
+use separation::compare::{text_gives, Reached, Wanted, WantedSheet, LIST_CASES, REACH_CASES, SHEET_CASES, TEXT_CASES};
 use separation::generate::arguments::arguments;
 use separation::generate::policies::{full_in_hexadecimal, longest, policy, Shape, DEMONSTRATION};
-use separation::generate::{graphs, lists, numbers, records, texts};
+use separation::generate::{graphs, lists, numbers, records, schedules, texts};
 use separation::random::Random;
-use separation::reference::{policyreach, report, sound, USAGE};
+use separation::reference::{policyreach, policysheet, report, sound, USAGE};
 use separation::{kernels, show, shrink};
 use std::ffi::OsStr;
 use std::io::{Read, Write};
@@ -23,15 +24,31 @@ struct Options {
     texts: usize,
     records: usize,
     graphs: usize,
+    schedules: usize,
     lists: usize,
     policycheck: Option<String>,
     policyreach: Option<String>,
+    policysheet: Option<String>,
     reports: usize,
 }
 
+impl Options {
+    const USUAL: Options = Options {
+        seed: 1,
+        texts: 200_000,
+        records: 60_000,
+        graphs: 20_000,
+        schedules: 20_000,
+        lists: 60_000,
+        policycheck: None,
+        policyreach: None,
+        policysheet: None,
+        reports: 3_000,
+    };
+}
+
 fn options() -> Options {
-    let (policycheck, policyreach) = (None, None);
-    let mut options = Options { seed: 1, texts: 200_000, records: 60_000, graphs: 20_000, lists: 60_000, policycheck, policyreach, reports: 3_000 };
+    let mut options = Options::USUAL;
     let mut words = std::env::args().skip(1);
     while let (Some(name), Some(value)) = (words.next(), words.next()) {
         let number = || value.parse().unwrap_or_else(|_| panic!("{name} takes a number"));
@@ -40,10 +57,12 @@ fn options() -> Options {
             "--texts" => options.texts = number(),
             "--records" => options.records = number(),
             "--graphs" => options.graphs = number(),
+            "--schedules" => options.schedules = number(),
             "--lists" => options.lists = number(),
             "--reports" => options.reports = number(),
             "--policycheck" => options.policycheck = Some(value),
             "--policyreach" => options.policyreach = Some(value),
+            "--policysheet" => options.policysheet = Some(value),
             _ => panic!("unknown option {name}"),
         }
     }
@@ -65,13 +84,15 @@ fn main() {
     compare_texts(&options, &kernels, &mut reached);
     compare_records(&options, &kernels, &mut reached);
     compare_graphs(&options, &kernels, &mut reached);
+    compare_schedules(&options, &kernels, &mut reached);
     compare_lists(&options, &kernels, &mut reached);
     compare_reports(&options);
     compare_reaches(&options);
+    compare_sheets(&options);
     for (case, count) in &reached.0 {
         println!("{count:9} {case}");
     }
-    let wanted: Vec<&str> = TEXT_CASES.iter().chain(&REACH_CASES).chain(&LIST_CASES).copied().collect();
+    let wanted: Vec<&str> = TEXT_CASES.iter().chain(&REACH_CASES).chain(&SHEET_CASES).chain(&LIST_CASES).copied().collect();
     let missing = reached.missing(&wanted);
     println!(
         "differential: no difference, {} of {} cases reached, {:.1} s",
@@ -120,6 +141,7 @@ fn compare_record(record: &Policy, kernels: &[Box<dyn Kernel>], reached: &mut Re
         }
     }
     compare_reach(record, kernels, reached);
+    compare_sheet(record, kernels, reached);
 }
 
 fn compare_records(options: &Options, kernels: &[Box<dyn Kernel>], reached: &mut Reached) {
@@ -180,6 +202,34 @@ fn compare_graphs(options: &Options, kernels: &[Box<dyn Kernel>], reached: &mut 
     println!("graphs: {}, {:.1} s", options.graphs, begun.elapsed().as_secs_f64());
 }
 
+/// The sheet of a record.
+fn compare_sheet(record: &Policy, kernels: &[Box<dyn Kernel>], reached: &mut Reached) {
+    let wanted = WantedSheet::of(record);
+    reached.sheet(&wanted);
+    for kernel in kernels {
+        if wanted.difference(&**kernel).is_some() {
+            let short = shrink::shrink_policy(record, &mut |record| sheet_difference(&**kernel, record).is_some());
+            fail("schedule", &sheet_difference(&**kernel, &short).unwrap_or_default(), &show::policy(&short));
+        }
+    }
+}
+
+fn compare_schedules(options: &Options, kernels: &[Box<dyn Kernel>], reached: &mut Reached) {
+    let begun = Instant::now();
+    let mut random = Random::new(options.seed ^ 0x5C4ED);
+    for _ in 0..options.schedules {
+        compare_sheet(&schedules::near(&mut random), kernels, reached);
+        let pair = schedules::pair(&mut random);
+        reached.change(&pair);
+        for kernel in kernels {
+            if let Some(difference) = moves_too_far(&**kernel, &pair) {
+                fail("pair of schedules", &difference, &pair.map(|policy| show::policy(&policy)).concat());
+            }
+        }
+    }
+    println!("schedules: {} and as many pairs, {:.1} s", options.schedules, begun.elapsed().as_secs_f64());
+}
+
 fn compare_lists(options: &Options, kernels: &[Box<dyn Kernel>], reached: &mut Reached) {
     let begun = Instant::now();
     let mut random = Random::new(options.seed ^ 0x11575);
@@ -234,6 +284,28 @@ fn compare_reaches(options: &Options) {
     }
     let [reports, questions, usages] = asked;
     println!("reaches: {reports} reports, {questions} questions, {usages} told how to call it, {:.1} s", begun.elapsed().as_secs_f64());
+}
+
+/// The program policysheet against the reference.
+fn compare_sheets(options: &Options) {
+    let Some(path) = &options.policysheet else { return };
+    let begun = Instant::now();
+    let mut random = Random::new(options.seed ^ 0x5EE7);
+    let mut refused = 0;
+    for round in 0..options.reports {
+        let text = match round {
+            0 => DEMONSTRATION.as_bytes().to_vec(),
+            1 => texts::text_of(&longest()),
+            _ if round % 4 == 0 => texts::text(&mut random),
+            _ => {
+                let record = schedules::record(&mut random);
+                numbers::written(&mut random, texts::text_of(&record))
+            }
+        };
+        compare_written(path, &[], &text, &|text| policysheet(text));
+        refused += policysheet(&text).starts_with("refused") as usize;
+    }
+    println!("sheets: {}, {refused} texts refused, {:.1} s", options.reports - refused, begun.elapsed().as_secs_f64());
 }
 
 /// What a program writes on a text against what the reference has.

@@ -2,6 +2,7 @@
 
 use super::policies::longest;
 use crate::boundary::{Policy, MEMORY};
+use crate::random::Random;
 use crate::reference;
 
 /// Two partitions in slots of 100 ticks; each may write a segment of its own, and read one of the other's.
@@ -62,6 +63,15 @@ pub fn chain() -> Policy {
         policy.set_right(p, 2 * p, 1);
     }
     (1..32).for_each(|s| policy.set_flow(s - 1, s, true));
+    policy
+}
+
+/// The largest record with its slots in no order, and of 1 to 1,000 ticks.
+pub fn in_no_order() -> Policy {
+    let mut policy = longest();
+    let mut random = Random::new(32);
+    random.shuffle(&mut policy.slot_partition);
+    policy.slot_ticks.iter_mut().for_each(|ticks| *ticks = random.from(1, 1_000) as u16);
     policy
 }
 

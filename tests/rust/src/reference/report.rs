@@ -1,9 +1,10 @@
-//! What the programs policycheck and policyreach write.
+//! What the programs policycheck, policyreach and policysheet write.
 
 use super::line::number;
 use super::reach::{can_reach, reach};
 use super::reader::read;
 use super::record::{readable, writable};
+use super::sheet::sheet;
 use crate::boundary::{has, Policy};
 
 /// "A refused text gives one line: refused, number, line."
@@ -20,6 +21,10 @@ fn accepted(text: &[u8]) -> Result<Policy, String> {
     Ok(answer.policy)
 }
 
+fn round_ticks(policy: &Policy) -> u32 {
+    policy.slot_ticks[..policy.slots as usize].iter().map(|&ticks| u32::from(ticks)).sum()
+}
+
 /// "First line: partitions, segments, slots, ticks in one round. Then id, and the masks of partitions p with the segment in R(p) and in W(p), bit p
 /// worth 2 to the power p. A refused text gives one line: refused, number, line."
 pub fn report(text: &[u8]) -> String {
@@ -27,7 +32,7 @@ pub fn report(text: &[u8]) -> String {
         Ok(policy) => policy,
         Err(line) => return line,
     };
-    let ticks: u32 = policy.slot_ticks[..policy.slots as usize].iter().map(|&ticks| u32::from(ticks)).sum();
+    let ticks = round_ticks(&policy);
     let mut report = format!("accepted\t{}\t{}\t{}\t{ticks}\n", policy.partitions, policy.segments, policy.slots);
     for segment in 0..policy.segments as usize {
         let mask = |has: fn(&Policy, usize, usize) -> bool| -> u32 {
@@ -68,4 +73,16 @@ fn question(policy: &Policy, from: u32, to: u32) -> String {
         0 => format!("reach\t{from}\t{to}\t{}\n", ["no", "yes"][answer.yes as usize]),
         number => refused(number, 0),
     }
+}
+
+/// Change request S-7: of each partition its number, its ticks and its longest silence; then the ticks of one round.
+pub fn policysheet(text: &[u8]) -> String {
+    let policy = match accepted(text) {
+        Ok(policy) => policy,
+        Err(line) => return line,
+    };
+    let result = sheet(&policy);
+    let row = |p: usize| format!("partition\t{p}\t{}\t{}\n", result.ticks[p], result.silence[p]);
+    let rows: String = (0..policy.partitions as usize).map(row).collect();
+    format!("{rows}round\t{}\n", round_ticks(&policy))
 }

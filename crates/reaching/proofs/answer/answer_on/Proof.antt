@@ -6,8 +6,8 @@ use borrow.Author.Tests.{not-true, not-false}
 use Rattle.policy.specs.Limits.{single}
 use Rattle.policy.specs.Record.{tablesOf}
 use Rattle.reaching.proofs.Laws.Answer.{answer-short, question-none, question-refused, question-answered}
-use Rattle.reaching.proofs.Laws.Lines.{within}
-use Rattle.reaching.proofs.Laws.Reading.{named-short, refused-fits}
+use Rattle.writing.proofs.Laws.Written.{written-within}
+use Rattle.report.proofs.Laws.Reading.{named-short, refused-fits}
 use Rattle.reaching.proofs.answer.answer_on.Statement.{statement}
 use Rattle.reaching.proofs.answer.answer_on.Tie as tie
 
@@ -24,7 +24,7 @@ returns : tie.Need-returns
 returns c =
     let i = c .before .before .before in
     let w = i .before .before in
-    rw (question-none single _ _ (w .words-in .ensures) (not-true _ (i .if1 .taken))) (within (c .put-word .ensures) (omega arith))
+    rw (question-none single _ _ (w .words-in .ensures) (not-true _ (i .if1 .taken))) (written-within (c .put-word .ensures) (omega arith))
 
 read-requires : tie.Need-read-requires
 read-requires c κs = search needs
@@ -43,7 +43,7 @@ returns-2 c =
     let w = j .before .before in
     let refused = sym (i .before .is-accepted .ensures) ∙ not-true _ (i .if2 .taken) in
     rw (question-refused single _ _ (w .words-in .ensures) (not-false _ (j .if1 .left)) (r .read .ensures) refused)
-    (within (c .put-refused .ensures) (omega (arith, refused-fits _ (r .read .ensures))))
+    (written-within (c .put-refused .ensures) (omega (arith, refused-fits _ (r .read .ensures))))
 
 put-answer-requires : tie.Need-put-answer-requires
 put-answer-requires c κs = search needs
@@ -57,7 +57,7 @@ returns-3 c =
     let accepted = sym (i .before .is-accepted .ensures) ∙ not-false _ (i .if2 .left) in
     let t = tablesOf (r .read .result .policy) in
     rw (question-answered single _ _ (w .words-in .ensures) (not-false _ (j .if1 .left)) (r .read .ensures) accepted)
-    (within (c .put-answer .ensures) (omega (arith, answer-short single t (w .words-in .result .from) (w .words-in .result .to) (omega arith))))
+    (written-within (c .put-answer .ensures) (omega (arith, answer-short single t (w .words-in .result .from) (w .words-in .result .to) (omega arith))))
 
 pub answer-on-spec : {M : Type 1} → statement M
 answer-on-spec =

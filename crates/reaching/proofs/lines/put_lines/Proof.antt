@@ -4,7 +4,7 @@ use mathlib.Core.Path.{_≡_, refl, _∙_}
 use native.Mathlib.Omega.{arith}
 use lib.ListN.{length}
 use borrow.Author.Needs.{needs}
-use Rattle.reach.specs.Rows.{listBelow}
+use Rattle.policy.specs.Below.{listBelow}
 use Rattle.writing.specs.Written.{Written}
 use Rattle.writing.proofs.Laws.Written.{written-none, written-long}
 use Rattle.reaching.specs.Report.{segmentLines}

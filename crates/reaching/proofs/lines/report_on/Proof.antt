@@ -10,8 +10,10 @@ use Rattle.policy.specs.Refusals.{isAccepted}
 use Rattle.policy.specs.Sound.{soundOf}
 use Rattle.policy.proofs.Lawful.{lawful}
 use Rattle.reach.proofs.Agrees.{masks-report}
-use Rattle.reaching.proofs.Laws.Lines.{within, rows-short}
-use Rattle.reaching.proofs.Laws.Reading.{named-short, refused-fits, report-refused, report-accepted, sound-read}
+use Rattle.writing.proofs.Laws.Written.{written-within}
+use Rattle.report.proofs.Laws.Reading.{named-short, refused-fits, sound-read}
+use Rattle.reaching.proofs.Laws.Lines.{rows-short}
+use Rattle.reaching.proofs.Laws.Reading.{report-refused, report-accepted}
 use Rattle.reaching.proofs.lines.report_on.Statement.{statement}
 use Rattle.reaching.proofs.lines.report_on.Tie as tie
 
@@ -29,7 +31,7 @@ returns c =
     let i = c .before .before in
     let r = i .before .before in
     let refused = sym (i .before .is-accepted .ensures) ∙ not-true _ (i .if1 .taken) in
-    rw (report-refused _ (r .read .ensures) refused) (within (c .put-refused .ensures) (omega (arith, refused-fits _ (r .read .ensures))))
+    rw (report-refused _ (r .read .ensures) refused) (written-within (c .put-refused .ensures) (omega (arith, refused-fits _ (r .read .ensures))))
 
 reach-requires : tie.Need-reach-requires
 reach-requires c κs = search needs
@@ -56,7 +58,7 @@ returns-2 c =
     let few = lawful single t (sound i) .few-segments in
     let rows = ap (λ a. a .rows) (reach .reach .ensures) in
     rw (report-accepted _ (r .read .ensures) (accepted i), ← masks-report single t (sound i), ← rows)
-    (within (c .put-lines .ensures) (omega (arith, few, rows-short (reach .reach .result .rows) (t .segments .count) (t .segments .count) few few)))
+    (written-within (c .put-lines .ensures) (omega (arith, few, rows-short (reach .reach .result .rows) (t .segments .count) (t .segments .count) few few)))
 
 pub report-on-spec : {M : Type 1} → statement M
 report-on-spec =

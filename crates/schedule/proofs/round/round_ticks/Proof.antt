@@ -4,7 +4,7 @@ use mathlib.Core.Path.{_≡_, refl}
 use native.Mathlib.Omega.{arith}
 use lib.ListN.{getD}
 use Rattle.policy.specs.Below.{sumBelow}
-use Rattle.schedule.proofs.Laws.Sums.{sum-next, sum-most}
+use Rattle.policy.proofs.Laws.Sums.{sum-next, sum-most}
 use Rattle.schedule.proofs.round.round_ticks.Statement.{statement}
 use Rattle.schedule.proofs.round.round_ticks.Tie as tie
 

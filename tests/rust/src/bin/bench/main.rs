@@ -13,7 +13,7 @@ use instructions::SAYS_NOTHING;
 use separation::boundary::{Answer, Kernel};
 use separation::generate::policies::{full_in_hexadecimal, longest};
 use separation::generate::texts::{hexadecimal_text_of, text_of};
-use separation::generate::workloads::{chain, few_flows, policy_of};
+use separation::generate::workloads::{chain, few_flows, in_no_order, policy_of};
 use separation::reference;
 use separation::tuned::Tuned;
 use std::collections::BTreeMap;
@@ -64,6 +64,13 @@ fn assert_reaches(kernel: &dyn Kernel) {
     assert!(records.iter().zip(ONE_LINE).all(|(record, (from, to))| record.flow(from as usize, to as usize)));
 }
 
+/// The sheets are the reference's, of as many slots as the rows say.
+fn assert_sheets(kernel: &dyn Kernel) {
+    for (record, slots) in [(policy_of(DEMONSTRATION), 2), (longest(), 32), (in_no_order(), 32)] {
+        assert_eq!((record.slots, kernel.sheet(&record)), (slots, reference::sheet(&record)));
+    }
+}
+
 /// A number, or a dash where a kernel says nothing.
 fn shown(number: f64, digits: usize) -> String {
     if number.is_nan() {
@@ -105,6 +112,7 @@ fn times(kernels: &[Named], rounds: u32) {
     for kernel in [&Proved as &dyn Kernel, &Tuned] {
         assert_reads(kernel);
         assert_reaches(kernel);
+        assert_sheets(kernel);
     }
     let times = measured(kernels, rounds);
     print!("| what, in ns |");

@@ -29,6 +29,7 @@ pub trait Timed {
     fn read(&self, text: &[u8], calls: u32) -> f64;
     fn reach(&self, policy: &Policy, calls: u32) -> f64;
     fn can_reach(&self, policy: &Policy, pair: (u32, u32), calls: u32) -> f64;
+    fn sheet(&self, policy: &Policy, calls: u32) -> f64;
 }
 
 impl<K: Kernel> Timed for K {
@@ -127,6 +128,17 @@ impl<K: Kernel> Timed for K {
         let begun = Instant::now();
         for _ in 0..calls {
             black_box(Kernel::can_reach(self, black_box(policy), black_box(from), black_box(to)));
+        }
+        ns(begun, calls)
+    }
+
+    fn sheet(&self, policy: &Policy, calls: u32) -> f64 {
+        if Kernel::sheet(self, policy).number != 0 {
+            return f64::NAN;
+        }
+        let begun = Instant::now();
+        for _ in 0..calls {
+            black_box(&Kernel::sheet(self, black_box(policy)));
         }
         ns(begun, calls)
     }

@@ -1,0 +1,2 @@
+-- The sheet of a text.
+pub mod Lines
