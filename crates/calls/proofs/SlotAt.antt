@@ -2,7 +2,6 @@
 use Prim.Native.Nat.{ℕ, zero, suc, _+_, _%_}
 use mathlib.Core.Path.{_≡_, ap, sym, _∙_}
 use mathlib.Core.Bool.{true}
-use mathlib.Core.List.{List}
 use native.Mathlib.Nat.{add-zero, zero-add, mod-add-mod}
 use native.Mathlib.Omega.{arith}
 use Rattle.policy.specs.Below.{sumBelow}
@@ -10,7 +9,6 @@ use Rattle.policy.specs.Limits.{Limits}
 use Rattle.policy.specs.View.{View}
 use Rattle.policy.specs.Lawful.{Lawful}
 use Rattle.policy.specs.Schedule.{roundTicks, booked, slotIn, slotAt}
-use Rattle.machine.specs.declared.Place.{Place}
 use Rattle.machine.specs.Place.{placeOf, isPlace, moved, position}
 use Rattle.machine.specs.Machine.{State, next}
 use Rattle.machine.proofs.Laws.Places.{is-place, moved-stays}

@@ -3,14 +3,13 @@ use crate::clash::overlaps_earlier;
 use crate::clash::partition_clashes;
 use crate::range::partition_outside;
 use crate::range::segment_outside;
-use crate::range::slot_outside;
 use bytes::byte_at;
 use bytes::half_at;
 ghost use mathlib.Core.Path.{_≡_};
 ghost use mathlib.Core.List.{[]};
 ghost use Rattle.policy.specs.Limits.{single};
-ghost use Rattle.policy.specs.Sound.{goodSegment, goodPartition, goodSlot};
-ghost use Rattle.linerules.specs.Parts.{EndedBy, placed, scheduled};
+ghost use Rattle.policy.specs.Sound.{goodSegment, goodPartition};
+ghost use Rattle.linerules.specs.Parts.{EndedBy, placed};
 
 // The segments before have ended at `end`. One that begins there or later overlaps none of them, so segments in the order
 // of their bases need one test each.
@@ -48,12 +47,4 @@ pub fn partition_passes<'a>(
         return false;
     }
     !partition_clashes(i, sizes, codes, saves, code, save)
-}
-
-pub fn slot_passes<'a>(owners: &'a [u8], ticks: &'a [u16], partitions: u8, i: u8) -> bool
-    ensures { λ r. ⌜ r ≡ goodSlot single (scheduled partitions (now (owners .entry)) (now (ticks .entry))) i ⌝ }
-{
-    let owner = byte_at(owners, i as usize) as u32;
-    let given = half_at(ticks, i as usize) as u32;
-    !slot_outside(partitions, i, owner, given)
 }

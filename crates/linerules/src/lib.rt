@@ -10,7 +10,6 @@ mod refusal;
 pub use blank::zeros;
 pub use entry::partition_passes;
 pub use entry::segment_passes;
-pub use entry::slot_passes;
 pub use line::line_refusal;
 pub use order::key_of;
 pub use refusal::is_accepted;

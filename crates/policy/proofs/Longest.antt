@@ -15,7 +15,7 @@ use Rattle.policy.specs.Schedule.{roundTicks, ticksBefore, booked, isBoo
 use Rattle.policy.specs.Silence.{Longest}
 use Rattle.policy.proofs.Laws.Sums.{Reaching, sum-within, most-least, most-at}
 use Rattle.policy.proofs.Laws.Rounds.{slot, slot-first, before-first, own-ahead}
-use Rattle.policy.proofs.Laws.Slots.{InSlot, slot-found, ticksTo, gap-other, gap-silent, gap-ends}
+use Rattle.policy.proofs.Laws.Slots.{InSlot, slot-found, ticksTo, gap-silent, gap-ends}
 
 module _ (limits : Limits) (v : View) (w : Lawful limits v) where
   abbrev n : ℕ

@@ -1,17 +1,16 @@
 -- S-7's theorems on the sheet's numbers: what they add up to, their zeros, and how little a silence moves with the ticks of one slot.
 use Prim.Native.Nat.{ℕ, zero, suc, _+_, _-_, _<_, _≤_}
 use mathlib.Core.Path.{_≡_, refl, sym, ap, _∙_}
-use mathlib.Core.Bool.{Bool, true, false, cond, true≢false}
+use mathlib.Core.Bool.{Bool, true, false, cond}
 use native.Mathlib.Nat.{add-zero}
 use native.Mathlib.Omega.{arith}
 use native.Mathlib.Decide.{ℕ-discrete}
-use lib.Dec.{eqb}
 use borrow.Author.Tests.{eq-eqb}
 use Rattle.policy.specs.Below.{someBelow, sumBelow, mostBelow}
 use Rattle.policy.specs.Limits.{Limits}
 use Rattle.policy.specs.View.{View}
 use Rattle.policy.specs.Lawful.{Lawful}
-use Rattle.policy.specs.Schedule.{ticksBefore, roundTicks, booked, isBooked, hasSlot, ownTicks, gapFrom, silence}
+use Rattle.policy.specs.Schedule.{roundTicks, booked, isBooked, hasSlot, ownTicks, gapFrom, silence}
 use Rattle.policy.specs.Silence.{AddsUp, NoSlot, Alone, Less, distance, OneSlotApart, MovesLittle}
 use Rattle.policy.proofs.Laws.Below.{some-at, none-at, some-same}
 use Rattle.policy.proofs.Laws.Sums.{sum-none, sum-same, sum-exchange, sum-one, most-within, most-near}

@@ -1,14 +1,12 @@
 -- S-7's theorems as the sheet of a sound record shows them.
-use Prim.Native.Nat.{ℕ, _+_, _<_, _≤_}
-use mathlib.Core.Path.{_≡_, refl, sym, _∙_}
-use mathlib.Core.Bool.{true}
+use Prim.Native.Nat.{ℕ}
+use mathlib.Core.Path.{_≡_, refl, _∙_}
 use native.Mathlib.Omega.{arith}
 use lib.ListN.{getD}
 use lib.Seq.{getD-set-same, getD-set-other}
 use Rattle.policy.specs.Limits.{Limits}
 use Rattle.policy.specs.Tables.{Tables, viewOf}
-use Rattle.policy.specs.Sound.{soundOf}
-use Rattle.policy.specs.Schedule.{roundTicks, ownTicks}
+use Rattle.policy.specs.Schedule.{ownTicks}
 use Rattle.policy.specs.Silence.{OneSlotApart}
 use Rattle.policy.proofs.Entries.{lengths}
 use Rattle.policy.proofs.Lawful.{lawful}

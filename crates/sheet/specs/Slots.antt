@@ -5,7 +5,7 @@ use mathlib.Core.List.{List}
 use lib.ListN.{getD, length}
 use Rattle.policy.specs.Limits.{mostTicks}
 use Rattle.policy.specs.View.{View}
-use Rattle.policy.specs.Schedule.{roundTicks, gapFrom}
+use Rattle.policy.specs.Schedule.{booked, roundTicks, gapFrom}
 
 -- Where p's first slot begins, in ticks before the end of the round; 0 if it has none.
 abbrev pub firstBegin : View → ℕ → ℕ
@@ -14,7 +14,7 @@ firstBegin v p = roundTicks v - gapFrom v p (v .slots) 0
 -- The policy has these slots.
 pub record Scheduled (v : View) (owner ticks : List ℕ) (slots : ℕ) : Type 0 where
   pub count : v .slots ≡ slots
-  pub owners : (k : ℕ) → v .owner k ≡ getD owner k 0
+  pub owners : (k : ℕ) → booked v k ≡ getD owner k 0
   pub lasts : (k : ℕ) → v .ticks k ≡ getD ticks k 0
 
 -- There is a slot; each stands in both slices, has at most 1,000 ticks, and its owner is one of so many partitions.

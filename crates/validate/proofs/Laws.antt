@@ -3,3 +3,4 @@ pub mod Shape
 pub mod Gathered
 pub mod Lines
 pub mod Ends
+pub mod Entries

@@ -28,11 +28,12 @@ abbrev pub entriesSound : Tables → Bool
 entriesSound t =
     countsFit single (viewOf t) && unusedZero t && linesHold single (viewOf t) && isAccepted (wholeRefusal (viewOf t))
 
--- What the types of a record's other arrays say: two that go by one count are of one length.
+-- What the types of a record's other arrays say: two that go by one count are of one length, and how long some are.
 pub record Paired (base size code save owner ticks : List ℕ) : Type 0 where
   pub segments : length base ≡ length size
   pub partitions : length code ≡ length save
   pub slots : length owner ≡ length ticks
+  pub slots-long : length owner ≡ single .slots
 
 -- What the types of a record's masks say: how many there are, and how wide they are.
 pub record MasksFit (reads writes sources : List ℕ) : Type 0 where

@@ -68,7 +68,8 @@ fn lines_hold<'a>(
     writes: &'a [u64],
     sources: &'a [u64],
 ) -> bool
-    requires { ⌜ (counts .segments ≤ 32) × (counts .partitions ≤ 8) ⌝ }
+    requires { ⌜ (counts .segments ≤ 32) × (counts .partitions ≤ 8) × (counts .slots ≤ 32) ⌝ }
+    requires { ⌜ Paired (now base) (now size) (now code) (now save) (now owner) (now ticks) ⌝ }
     requires { ⌜ MasksFit (now reads) (now writes) (now sources) ⌝ }
     ensures { λ r.
         ⌜

@@ -1,12 +1,12 @@
 -- Backwards through a round, the longest of the gaps behind a partition's own slots is the longest of all gaps: a gap that begins between two own
 -- slots lies in the one that begins behind the first of them.
-use Prim.Native.Nat.{ℕ, zero, suc, _+_, _*_, _-_, _<_, _≤_, max}
+use Prim.Native.Nat.{ℕ, _+_, _*_, _-_, _<_, _≤_, max}
 use mathlib.Core.Path.{_≡_, refl, sym, ap, subst, _∙_}
 use mathlib.Core.Bool.{Bool, true, false, cond, true≢false}
 use mathlib.Core.List.{List}
 use native.Mathlib.Nat.{add-zero}
 use native.Mathlib.Omega.{arith}
-use native.Mathlib.Decide.{decLt, ℕ-discrete}
+use native.Mathlib.Decide.{decLt}
 use borrow.Author.Tests.{eq-eqb, ne-eqb}
 use lib.ListN.{getD, length, set}
 use Rattle.policy.specs.Below.{mostBelow, listBelow}
@@ -16,7 +16,7 @@ use Rattle.policy.specs.Schedule.{ticksBefore, roundTicks, booked, isBooked, ha
 use Rattle.policy.proofs.Laws.Below.{some-found, some-at}
 use Rattle.policy.proofs.Laws.Lists.{list-at, list-is}
 use Rattle.policy.proofs.Laws.Sums.{sum-more, sum-most, most-least, most-within}
-use Rattle.policy.proofs.Laws.Rounds.{slot, slot-first, slot-second, slot-below, gap-enough}
+use Rattle.policy.proofs.Laws.Rounds.{slot-first, slot-second, gap-enough}
 use Rattle.policy.proofs.Schedule.{gap-less}
 use Rattle.sheet.specs.Slots.{Scheduled, firstBegin}
 use Rattle.sheet.proofs.Laws.Walk.{gapOver, over-other, each-set, ahead-more}

@@ -66,6 +66,17 @@ pub fn chain() -> Policy {
     policy
 }
 
+/// The largest record with its segments one behind the other in memory, as a linker puts them.
+pub fn in_order() -> Policy {
+    let mut policy = longest();
+    let mut end = 0;
+    for (base, size) in policy.base.iter_mut().zip(policy.size) {
+        *base = end;
+        end += size;
+    }
+    policy
+}
+
 /// The largest record with its slots in no order, and of 1 to 1,000 ticks.
 pub fn in_no_order() -> Policy {
     let mut policy = longest();

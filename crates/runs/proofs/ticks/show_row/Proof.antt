@@ -1,6 +1,5 @@
 -- The loop goes through the row.
 use Prim.Native.Nat.{_≤_, _-_}
-use native.Mathlib.Omega.{arith}
 use borrow.Author.Needs.{needs}
 use Rattle.runs.proofs.ticks.show_row.Statement.{statement}
 use Rattle.runs.proofs.ticks.show_row.Tie as tie

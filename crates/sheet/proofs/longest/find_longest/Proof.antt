@@ -1,13 +1,12 @@
 -- Each turn goes one slot back: behind it its partition was silent until the slot that it has next, and it is that slot for those before.
-use Prim.Native.Nat.{ℕ, _+_, _*_, _-_, _<_, _≤_}
-use mathlib.Core.Path.{_≡_, refl, sym, ap, subst, _∙_}
+use Prim.Native.Nat.{_+_, _-_, _<_, _≤_}
+use mathlib.Core.Path.{_≡_, refl, subst}
 use native.Mathlib.Omega.{arith}
 use borrow.Author.Needs.{needs}
 use lib.ListN.{getD, length, length-set}
 use Rattle.policy.specs.Below.{listBelow}
 use Rattle.policy.specs.View.{View}
 use Rattle.policy.specs.Schedule.{silence}
-use Rattle.policy.proofs.Laws.Sums.{sum-more, sum-most}
 use Rattle.sheet.specs.Slots.{Scheduled}
 use Rattle.sheet.proofs.Laws.Walk.{lent, lent-scheduled}
 use Rattle.sheet.proofs.Laws.Longest.{Walked, walked-none, walked-more, walked-all, far-below}

@@ -30,7 +30,7 @@ lines-hold-requires c κs =
     let start = c .before .before .before .before .before .before .before .before .before .before .before in
     let v = viewOf (recordOf (start .args .counts) [] [] [] [] [] [] [] [] []) in
     let fit = counts single v (not-false _ (c .before .if1 .left)) in
-    ((fit .segments, fit .partitions), start .pre .1)
+    ((fit .segments, fit .partitions, fit .slots), start .pre)
 
 lent-refusal-requires : tie.Need-lent-refusal-requires
 unfolding countsFit

@@ -4,7 +4,7 @@ use crate::timed::Timed;
 use separation::boundary::MEMORY;
 use separation::generate::policies::{full_in_hexadecimal, longest};
 use separation::generate::texts::{hexadecimal_text_of, text_of};
-use separation::generate::workloads::{chain, copy, copy_words, few_flows, in_no_order, least, policy_of, programs, COMPUTE};
+use separation::generate::workloads::{chain, copy, copy_words, few_flows, in_no_order, in_order, least, policy_of, programs, COMPUTE};
 
 pub const DEMONSTRATION: &[u8] = include_bytes!("../../../../../policies/demonstration.policy");
 
@@ -45,7 +45,7 @@ pub const ONE_LINE: [(u32, u32); 2] = [(4, 3), (30, 31)];
 pub const BESIDE: [(&str, &str); 2] = [(ASK_DEMONSTRATION, SOUND_DEMONSTRATION), (ASK_LARGEST, SOUND_LARGEST)];
 pub const BESIDE_AIM: f64 = 1.1;
 
-pub const CASES: [Case; 28] = [
+pub const CASES: [Case; 29] = [
     tick("tick, compute loop", |kernel, calls| {
         let (policy, memory) = programs(&COMPUTE, &COMPUTE);
         kernel.run(&policy, &memory, RUN, calls)
@@ -85,5 +85,6 @@ pub const CASES: [Case; 28] = [
     call("question, chain of 32 segments end to end", 100, |kernel, calls| kernel.can_reach(&chain(), (0, 31), calls)),
     call("sheet, demonstration", 300, |kernel, calls| kernel.sheet(&policy_of(DEMONSTRATION), calls)),
     Case { aim: 1.5, ..call("sheet, largest record (32 slots in turn)", 100, |kernel, calls| kernel.sheet(&longest(), calls)) },
+    Case { aim: 1.5, ..call("sheet, the same with segments in order", 100, |kernel, calls| kernel.sheet(&in_order(), calls)) },
     Case { aim: 1.5, ..call("sheet, 32 slots in no order", 100, |kernel, calls| kernel.sheet(&in_no_order(), calls)) },
 ];

@@ -13,7 +13,7 @@ use instructions::SAYS_NOTHING;
 use separation::boundary::{Answer, Kernel};
 use separation::generate::policies::{full_in_hexadecimal, longest};
 use separation::generate::texts::{hexadecimal_text_of, text_of};
-use separation::generate::workloads::{chain, few_flows, in_no_order, policy_of};
+use separation::generate::workloads::{chain, few_flows, in_no_order, in_order, policy_of};
 use separation::reference;
 use separation::tuned::Tuned;
 use std::collections::BTreeMap;
@@ -66,7 +66,7 @@ fn assert_reaches(kernel: &dyn Kernel) {
 
 /// The sheets are the reference's, of as many slots as the rows say.
 fn assert_sheets(kernel: &dyn Kernel) {
-    for (record, slots) in [(policy_of(DEMONSTRATION), 2), (longest(), 32), (in_no_order(), 32)] {
+    for (record, slots) in [(policy_of(DEMONSTRATION), 2), (longest(), 32), (in_order(), 32), (in_no_order(), 32)] {
         assert_eq!((record.slots, kernel.sheet(&record)), (slots, reference::sheet(&record)));
     }
 }
