@@ -1,5 +1,5 @@
--- 02, S-1: "Refused: 15 if s or t isn't a segment, after 10; report empty, answer no." The number of each answer to a question
--- about a policy, and what a refused one holds.
+-- 02, S-1: "Refused: 15 if s or t isn't a segment, after 10; report empty, answer no."; S-7: "Refused: 10, all zeros." The number of each
+-- answer to a question about a policy, and what a refused one holds.
 use Prim.Native.Nat.{ℕ}
 use mathlib.Core.Bool.{Bool, true, false, cond}
 use Rattle.policy.specs.declared.record.Asked.{Asked}

@@ -1,5 +1,6 @@
 -- In reading order. What a policy is:
--- the limits of a head, what a rule asks of a policy, what a partition may reach, the schedule, chains of flow lines.
+-- the limits of a head, what a rule asks of a policy, what a partition may reach, the schedule and how long a partition is silent in it, chains of
+-- flow lines.
 pub mod Below
 pub mod Limits
 pub mod View
