@@ -32,6 +32,7 @@ entriesSound t =
 pub record Paired (base size code save owner ticks : List ℕ) : Type 0 where
   pub segments : length base ≡ length size
   pub partitions : length code ≡ length save
+  pub partitions-long : length code ≡ single .partitions
   pub slots : length owner ≡ length ticks
   pub slots-long : length owner ≡ single .slots
 

@@ -1,12 +1,17 @@
 -- What rule 8 asks, as masks of segments.
-use Prim.Native.Nat.{ℕ, zero, suc, _<_}
+use Prim.Native.Nat.{ℕ, zero, suc, _<_, _≤_}
 use mathlib.Core.Path.{_≡_}
 use mathlib.Core.Bool.{Bool, _||_, cond}
 use mathlib.Core.List.{List}
 use lib.Bits.{bitOr}
 use lib.Dec.{eqb}
-use lib.ListN.{getD}
+use lib.ListN.{getD, length}
 use Rattle.bits.specs.Masks.{has, maskOf}
+
+-- The arrays have an entry for each partition.
+abbrev pub HasPartitions : ℕ → List ℕ → List ℕ → List ℕ → Type 0
+HasPartitions partitions save reads writes =
+    (partitions ≤ length save) × (partitions ≤ length reads) × (partitions ≤ length writes)
 
 -- Whether p reaches s by the masks: it is its save segment, or they give it. R(p) by the read masks, W(p) by the write
 -- masks.
@@ -28,3 +33,9 @@ unfoldable pub askedInto : List ℕ → List ℕ → ℕ → ℕ → ℕ
 askedInto reached written t zero = 0
 askedInto reached written t (suc p) =
     bitOr (askedInto reached written t p) (cond (has (getD written p 0) t) (getD reached p 0) 0)
+
+-- What is reached by those of the first partitions whose save segment is t.
+unfoldable pub keptFor : List ℕ → List ℕ → ℕ → ℕ → ℕ
+keptFor save reached t zero = 0
+keptFor save reached t (suc p) =
+    bitOr (keptFor save reached t p) (cond (eqb t (getD save p 0)) (getD reached p 0) 0)

@@ -2,12 +2,13 @@
 ghost use Prim.Native.Nat.{_≤_};
 ghost use mathlib.Core.Path.{_≡_};
 ghost use mathlib.Core.List.{[]};
+ghost use lib.ListN.{length};
 ghost use Rattle.policy.specs.ByTarget.{foundAfter};
 ghost use Rattle.policy.specs.Whole.{flowMissing, strayFlow};
+ghost use Rattle.wholerules.specs.Masks.{HasPartitions};
 ghost use Rattle.wholerules.specs.Parts.{partsOf};
 use crate::masks::reach_all;
 use crate::masks::target_lacks;
-use bits::mask_at;
 use bits::worth;
 
 // Whether a line that rule 8 asks for is missing, and whether a line into a save segment has a stray source.
@@ -27,7 +28,8 @@ pub(crate) fn missing_after<'a>(
     partitions: u8,
     targets: u8,
 ) -> Flows
-    requires { ⌜ (segments ≤ 64) × (partitions ≤ 12) × (targets ≤ segments) ⌝ }
+    requires { ⌜ (segments ≤ 64) × (partitions ≤ 12) × (targets ≤ segments) × (segments ≤ length (now sources)) ⌝ }
+    requires { ⌜ HasPartitions partitions (now save) (now reads) (now writes) ⌝ }
     ensures { λ r.
         ⌜
         (let v =
@@ -38,6 +40,7 @@ pub(crate) fn missing_after<'a>(
 {
     let mut reached: [u64; 12] = [0; 12];
     let mut written: [u64; 12] = [0; 12];
+    let mut kept: [u64; 64] = [0; 64];
     let all = reach_all(
         save,
         reads,
@@ -47,12 +50,13 @@ pub(crate) fn missing_after<'a>(
         partitions,
         &mut reached,
         &mut written,
+        &mut kept,
     );
     let mut found = false;
     let mut t = 0;
     while t < targets {
-        let allowed = mask_at(sources, t as usize) | worth(t as u32);
-        found = found | target_lacks(&reached, &written, partitions, t, allowed, all);
+        let allowed = sources[t as usize] | worth(t as u32);
+        found = found | target_lacks(&reached, &written, partitions, t, allowed, all, &kept);
         t += 1;
     }
     Flows {
@@ -70,7 +74,8 @@ pub(crate) fn look_at_flows<'a>(
     segments: u8,
     partitions: u8,
 ) -> Flows
-    requires { ⌜ (segments ≤ 64) × (partitions ≤ 12) ⌝ }
+    requires { ⌜ (segments ≤ 64) × (partitions ≤ 12) × (segments ≤ length (now sources)) ⌝ }
+    requires { ⌜ HasPartitions partitions (now save) (now reads) (now writes) ⌝ }
     ensures { λ r.
         ⌜
         (let v =

@@ -5,21 +5,21 @@ ghost use mathlib.Core.List.{[]};
 ghost use lib.ListN.{length};
 ghost use Rattle.policy.specs.Read.{wholeRefusal};
 ghost use Rattle.policy.specs.Whole.{codeUnreadable};
+ghost use Rattle.wholerules.specs.Masks.{HasPartitions};
 ghost use Rattle.wholerules.specs.Parts.{partsOf};
 use crate::flows::look_at_flows;
 use bits::bit_at;
-use bits::mask_at;
 use bits::widen;
-use bytes::byte_at;
 use policy::Refusal;
 
 fn code_unreadable<'a>(code: &'a [u8], reads: &'a [u64], partitions: u8) -> bool
+    requires { ⌜ (partitions ≤ length (now code)) × (partitions ≤ length (now reads)) ⌝ }
     ensures { λ r. ⌜ r ≡ codeUnreadable (partsOf 0 partitions 0 (now (code .entry)) [] (now (reads .entry)) [] []) ⌝ }
 {
     let mut p = 0;
     while p < partitions {
-        let s = byte_at(code, p as usize);
-        if !bit_at(mask_at(reads, p as usize), s) {
+        let s = code[p as usize];
+        if !bit_at(reads[p as usize], s) {
             return true;
         }
         p += 1;
@@ -38,7 +38,8 @@ pub fn lent_refusal<'a>(
     writes: &'a [u64],
     sources: &'a [u64],
 ) -> Refusal
-    requires { ⌜ (segments ≤ 64) × (partitions ≤ 12) ⌝ }
+    requires { ⌜ (segments ≤ 64) × (partitions ≤ 12) × (segments ≤ length (now sources)) ⌝ }
+    requires { ⌜ (partitions ≤ length (now code)) × HasPartitions partitions (now save) (now reads) (now writes) ⌝ }
     ensures { λ r.
         ⌜
         r ≡ wholeRefusal
@@ -74,6 +75,7 @@ pub fn record_refusal<'a>(
     sources: &'a [u32],
 ) -> Refusal
     requires { ⌜ (segments ≤ 32) × (partitions ≤ 8) ⌝ }
+    requires { ⌜ (length (now code) ≡ 8) × (length (now save) ≡ 8) ⌝ }
     requires { ⌜ (length (now reads) ≡ 8) × (length (now writes) ≡ 8) × (length (now sources) ≡ 32) ⌝ }
     ensures { λ r.
         ⌜

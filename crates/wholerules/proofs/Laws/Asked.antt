@@ -2,7 +2,7 @@
 -- what some partition reaches that may write t.
 use Prim.Native.Nat.{ℕ, zero, suc, _+_, _^_, _<_, _≤_}
 use mathlib.Core.Path.{_≡_, refl, sym, _∙_}
-use mathlib.Core.Bool.{Bool, true, false, cond, _&&_, _||_, and-true, true≢false}
+use mathlib.Core.Bool.{Bool, true, false, cond, _&&_, _||_, and-true}
 use mathlib.Core.List.{List}
 use native.Mathlib.Nat.{lt-of-le-of-lt, pow-suc}
 use native.Mathlib.Numerals.{add-one}
@@ -17,7 +17,7 @@ use Rattle.bits.proofs.Laws.Masks.{has-and, has-none, has-or, mask-under, withi
 use Rattle.bits.proofs.Laws.Sets.{has-below, mask-is}
 use Rattle.policy.specs.Below.{someBelow}
 use Rattle.policy.proofs.Laws.Below.{some-at, some-found}
-use Rattle.policy.proofs.Laws.Bools.{and-left, and-right}
+use Rattle.policy.proofs.Laws.Bools.{and-right}
 use Rattle.wholerules.specs.Masks.{askedInto, joined}
 
 module _ (n own there byte : ℕ) (few : n ≤ 64) (o : own ≡ maskOf 64 (λ u. eqb u byte)) (t : there ≡ maskOf n (λ s. true)) where
@@ -44,6 +44,10 @@ module _ (list : List ℕ) where
   unfolding joined someBelow
   has-joined zero s = has-none s
   has-joined (suc p) s = has-or (joined list p) (getD list p 0) s ∙ rw (has-joined p s)
+
+  pub joined-next : (i every more : ℕ) → every ≡ joined list i → more ≡ getD list i 0 → bitOr every more ≡ joined list (i + 1)
+  unfolding joined
+  joined-next i every more e m = rw (add-one, e, m)
 
   joined-kept : (i value n : ℕ) → n ≤ i → joined (set list i value) n ≡ joined list n
   unfolding joined
@@ -78,27 +82,19 @@ module _ (reached written : List ℕ) (t : ℕ) where
       has-or (askedInto reached written t p) (cond (has (getD written p 0) t) (getD reached p 0) 0) s
       ∙ rw (has-asked p s, has-cond (has (getD written p 0) t) (getD reached p 0) s)
 
-  -- What is asked for is reached, and somebody may write t.
-  asked-at : (n s : ℕ) → has (askedInto reached written t n) s ≡ true → (has (joined reached n) s ≡ true) × (has (joined written n) t ≡ true)
+  -- What is asked for is reached.
+  asked-at : (n s : ℕ) → has (askedInto reached written t n) s ≡ true → has (joined reached n) s ≡ true
   asked-at n s h =
       let a = some-at (λ p. has (getD written p 0) t && has (getD reached p 0) s) n (sym (has-asked n s) ∙ h) in
-      let w = has (getD written (a .number) 0) t in
-      let r = has (getD reached (a .number) 0) s in (
-        has-joined reached n s ∙ some-found (λ p. has (getD reached p 0) s) n (a .number) (a .below) (and-right w r (a .passes)),
-        has-joined written n t ∙ some-found (λ p. has (getD written p 0) t) n (a .number) (a .below) (and-left w r (a .passes)),
-      )
+      has-joined reached n s
+      ∙ some-found (λ p. has (getD reached p 0) s) n (a .number) (a .below)
+      (and-right (has (getD written (a .number) 0) t) (has (getD reached (a .number) 0) s) (a .passes))
 
-  module _ (n allowed : ℕ) where
-    abbrev asked : ℕ
-    asked = askedInto reached written t n
-
-    pub asked-within : bitAnd (joined reached n) allowed ≡ joined reached n → bitAnd asked allowed ≡ asked
-    asked-within e =
-        within-of asked asked allowed (own-width asked) (λ s l h. within-at (joined reached n) allowed e s (asked-at n s h .0))
-
-    pub unwritten-within : has (joined written n) t ≡ false → bitAnd asked allowed ≡ asked
-    unwritten-within e =
-        within-of asked asked allowed (own-width asked) (λ s l h. absurd (true≢false (sym (asked-at n s h .1) ∙ e)))
+  pub asked-within : (n allowed : ℕ) → bitAnd (joined reached n) allowed ≡ joined reached n →
+      bitAnd (askedInto reached written t n) allowed ≡ askedInto reached written t n
+  asked-within n allowed e =
+      let asked = askedInto reached written t n in
+      within-of asked asked allowed (own-width asked) (λ s l h. within-at (joined reached n) allowed e s (asked-at n s h))
 
   pub asked-under : (w n : ℕ) → ((p : ℕ) → p < n → getD reached p 0 < 2 ^ w) → askedInto reached written t n < 2 ^ w
   unfolding askedInto

@@ -38,7 +38,18 @@ lent-refusal-requires c κs =
     let start = c .before .before .before .before .before .before .before .before .before .before .before .before in
     let v = viewOf (recordOf (start .args .counts) [] [] [] [] [] [] [] [] []) in
     let fit = counts single v (not-false _ (c .before .before .if1 .left)) in
-    (omega (arith, fit .segments), omega (arith, fit .partitions))
+    let paired = start .pre .0 in
+    let masks = start .pre .1 in (
+      (omega (arith, fit .segments), omega (arith, fit .partitions), rw (masks .segments-long) (fit .segments)),
+      (
+        rw (paired .partitions-long) (fit .partitions),
+        (
+          rw (← paired .partitions, paired .partitions-long) (fit .partitions),
+          rw (masks .partitions-read) (fit .partitions),
+          rw (masks .partitions-write) (fit .partitions),
+        ),
+      ),
+    )
 
 is-accepted-requires : tie.Need-is-accepted-requires
 is-accepted-requires c κs = search needs

@@ -47,7 +47,7 @@ lent-passes-requires c κs =
     let save : length (p .save) ≡ 8 = simp length-map at (g .1 .1 .1 .0 .1 .0 .1) in
     let owner : length (p .owner) ≡ 32 = simp length-map at (g .1 .1 .1 .1 .0 .1 .0 .1) in
     let ticks : length (p .ticks) ≡ 32 = simp length-map at (g .1 .1 .1 .1 .1 .0 .1 .0 .1) in (
-      record { segments = base ∙ sym size; partitions = code ∙ sym save; slots = owner ∙ sym ticks; slots-long = owner },
+      record { segments = base ∙ sym size; partitions = code ∙ sym save; partitions-long = code; slots = owner ∙ sym ticks; slots-long = owner },
       record {
         partitions-read = search needs;
         partitions-write = search needs;

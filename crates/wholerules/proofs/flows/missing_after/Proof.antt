@@ -1,22 +1,24 @@
 -- The loop carries what has been found: the invariant is the definition's value after the targets before t.
-use Prim.Native.Nat.{_-_, _≤_}
+use Prim.Native.Nat.{_-_, _<_, _≤_}
 use mathlib.Core.Path.{_≡_, refl, _∙_}
 use mathlib.Core.List.{[]}
 use native.Mathlib.Omega.{arith}
 use borrow.Author.Needs.{needs}
 use Rattle.policy.specs.ByTarget.{foundAfter}
 use Rattle.policy.proofs.ByTarget.{found-next}
+use Rattle.policy.proofs.Laws.Zeros.{zero-at}
 use Rattle.wholerules.specs.Parts.{partsOf}
+use Rattle.wholerules.proofs.Laws.Kept.{kept-asked}
 use Rattle.wholerules.proofs.Laws.Sources.{target-told}
 use Rattle.wholerules.proofs.flows.missing_after.Statement.{statement}
 use Rattle.wholerules.proofs.flows.missing_after.Tie as tie
 
 abbrev Inv-loop : tie.InvT-loop
-Inv-loop save reads writes sources segments partitions targets reached written all found₀ t₀ found t =
+Inv-loop save reads writes sources segments partitions targets reached written kept all found₀ t₀ found t =
     (t ≤ targets) × (found ≡ foundAfter (partsOf segments partitions 0 [] save reads writes sources) t)
 
 abbrev μ-loop : tie.MeasureT-loop
-μ-loop save reads writes sources segments partitions targets reached written all found₀ t₀ found t = targets - t
+μ-loop save reads writes sources segments partitions targets reached written kept all found₀ t₀ found t = targets - t
 
 slice-aggregate-reach-all : tie.Need-slice-aggregate-reach-all Inv-loop μ-loop
 slice-aggregate-reach-all c = search needs
@@ -24,18 +26,24 @@ slice-aggregate-reach-all c = search needs
 slice-aggregate-reach-all-2 : tie.Need-slice-aggregate-reach-all-2 Inv-loop μ-loop
 slice-aggregate-reach-all-2 c = search needs
 
+slice-aggregate-reach-all-3 : tie.Need-slice-aggregate-reach-all-3 Inv-loop μ-loop
+slice-aggregate-reach-all-3 c = search needs
+
 reach-all-requires : tie.Need-reach-all-requires Inv-loop μ-loop
-reach-all-requires c κs = search needs
+reach-all-requires c κs = (search needs, ((search needs, zero-at 64), search needs))
 
 loop-holds : tie.Need-loop-holds Inv-loop μ-loop
 unfolding foundAfter
 loop-holds c = (omega arith, refl)
 
-cast-mask-at : tie.Need-cast-mask-at Inv-loop μ-loop
-cast-mask-at c = search needs
+cast-allowed : tie.Need-cast-allowed Inv-loop μ-loop
+cast-allowed c = search needs
 
-mask-at-requires : tie.Need-mask-at-requires Inv-loop μ-loop
-mask-at-requires c κs = search needs
+mul-allowed : tie.Need-mul-allowed Inv-loop μ-loop
+mul-allowed c = search needs
+
+shared-slice-read-allowed : tie.Need-shared-slice-read-allowed Inv-loop μ-loop
+shared-slice-read-allowed c = search needs
 
 cast-worth : tie.Need-cast-worth Inv-loop μ-loop
 cast-worth c = search needs
@@ -49,10 +57,23 @@ slice-aggregate-target-lacks c = search needs
 slice-aggregate-target-lacks-2 : tie.Need-slice-aggregate-target-lacks-2 Inv-loop μ-loop
 slice-aggregate-target-lacks-2 c = search needs
 
+slice-aggregate-target-lacks-3 : tie.Need-slice-aggregate-target-lacks-3 Inv-loop μ-loop
+slice-aggregate-target-lacks-3 c = search needs
+
 target-lacks-requires : tie.Need-target-lacks-requires Inv-loop μ-loop
 target-lacks-requires c κs =
-    let all = c .before .before .before .before .before .before .before .before .reach-all .ensures in
-    (search needs, (all .2, all .3))
+    let l = c .before .before .before .before .before .before in
+    let all = l .before .before .before .before .reach-all .ensures in
+    let a = l .before .before .before .before .before .before .before .before .before .before .before .before .args in
+    let there : l .loop .t < a .segments = search needs in (
+      search needs,
+      (
+        (all .2, search needs),
+        λ none.
+            all .4 (l .loop .t) there
+            ∙ kept-asked (a .save .now) _ (a .writes .now) _ (a .segments) (l .loop .t) there (a .partitions) (all .1) (rw (all .3) at none),
+      ),
+    )
 
 add-t : tie.Need-add-t Inv-loop μ-loop
 add-t c = search needs
@@ -62,23 +83,25 @@ loop-less c = search needs
 
 loop-again : tie.Need-loop-again Inv-loop μ-loop
 loop-again c =
-    let l = c .before .before .before .before .before .before in
-    let reached = l .before .before .before .reach-all .ensures in
-    let a = l .before .before .before .before .before .before .before .before .before .before .args in (
+    let l = c .before .before .before .before .before .before .before in
+    let reached = l .before .before .before .before .reach-all .ensures in
+    let start = l .before .before .before .before .before .before .before .before .before .before .before .before in
+    let a = start .args in
+    let there : l .loop .t < a .segments = omega (arith, c .before .before .before .before .before .before .loop-test .taken, start .pre .0 .2) in (
       omega arith,
       found-next (partsOf (a .segments) (a .partitions) 0 [] (a .save .now) (a .reads .now) (a .writes .now) (a .sources .now)) (l .loop .t) _ _
           (l .loop .inv .1)
           (c .target-lacks .ensures
-          ∙ rw (c .before .before .before .worth .ensures, c .before .before .before .before .mask-at .ensures)
+          ∙ rw (c .before .before .before .before .worth .ensures)
           (target-told (a .segments) (a .partitions) (a .save .now) (a .reads .now) (a .writes .now) (a .sources .now) _ _
-          (reached .0) (reached .1) _ (omega arith))),
+          (reached .0) (reached .1) (l .loop .t) there)),
     )
 
 returns : tie.Need-returns Inv-loop μ-loop
 returns c =
     let l = c .before in
-    let q : l .loop .t ≡ l .before .before .before .before .before .before .before .before .before .before .args .targets = omega arith in
-    (l .loop .inv .1 ∙ rw q, l .before .before .before .reach-all .ensures .4)
+    let q : l .loop .t ≡ l .before .before .before .before .before .before .before .before .before .before .before .before .args .targets = omega arith in
+    (l .loop .inv .1 ∙ rw q, l .before .before .before .before .reach-all .ensures .5)
 
 pub missing-after-spec : {M : Type 1} → statement M
 missing-after-spec =
@@ -88,14 +111,17 @@ missing-after-spec =
     μ-loop
     slice-aggregate-reach-all
     slice-aggregate-reach-all-2
+    slice-aggregate-reach-all-3
     reach-all-requires
     loop-holds
-    cast-mask-at
-    mask-at-requires
+    cast-allowed
+    mul-allowed
+    shared-slice-read-allowed
     cast-worth
     worth-requires
     slice-aggregate-target-lacks
     slice-aggregate-target-lacks-2
+    slice-aggregate-target-lacks-3
     target-lacks-requires
     add-t
     loop-less

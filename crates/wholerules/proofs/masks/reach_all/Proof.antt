@@ -1,68 +1,78 @@
 -- The loop writes each partition's masks at its place; the invariant: those before p are written, all that they have is gathered, and so is whether
 -- their save segments have a stray source.
-use Prim.Native.Nat.{_-_}
+use Prim.Native.Nat.{ℕ, _-_, _<_}
 use mathlib.Core.Path.{_≡_, refl, _∙_}
 use mathlib.Core.List.{[]}
 use native.Mathlib.Omega.{arith}
+use lib.ListN.{getD, length}
 use borrow.Author.Needs.{needs}
 use Rattle.bits.specs.Masks.{maskOf}
 use Rattle.policy.specs.Below.{someBelow}
 use Rattle.policy.specs.Whole.{flowStrays, strayFlow}
 use Rattle.policy.proofs.Laws.Below.{some-next}
-use Rattle.wholerules.specs.Masks.{joined, reach}
+use Rattle.wholerules.specs.Masks.{joined, keptFor, reach}
 use Rattle.wholerules.specs.Parts.{partsOf}
-use Rattle.wholerules.proofs.Laws.Asked.{joined-more, reached-is}
+use Rattle.wholerules.proofs.Laws.Asked.{joined-more, joined-next, reached-is}
 use Rattle.wholerules.proofs.Laws.Filled.{Filled, fill-none, fill-more, fill-done}
+use Rattle.wholerules.proofs.Laws.Kept.{kept-more}
 use Rattle.wholerules.proofs.Laws.Strays.{sources-told}
 use Rattle.wholerules.proofs.masks.reach_all.Statement.{statement}
 use Rattle.wholerules.proofs.masks.reach_all.Tie as tie
 
 abbrev Inv-loop : tie.InvT-loop
-Inv-loop save reads writes sources segments partitions reached₀ written₀ there any-reached₀ any-written₀ stray₀ p₀ reached written any-reached any-written stray p =
+Inv-loop save reads writes sources segments partitions reached₀ written₀ kept₀ there any-reached₀ any-given₀ stray₀ p₀ reached written kept any-reached any-given stray p =
     Filled partitions (λ q. maskOf segments (reach save reads q)) reached₀ reached p
     × Filled partitions (λ q. maskOf segments (reach save writes q)) written₀ written p
     × (any-reached ≡ joined reached p)
-    × (any-written ≡ joined written p)
+    × (any-given ≡ joined writes p)
     × (stray ≡ someBelow p (λ q. someBelow segments (flowStrays (partsOf segments partitions 0 [] save reads writes sources) q)))
+    × (length kept ≡ length kept₀)
+    × ((t : ℕ) → t < segments → getD kept t 0 ≡ keptFor save reached t p)
 
 abbrev μ-loop : tie.MeasureT-loop
-μ-loop save reads writes sources segments partitions reached₀ written₀ there any-reached₀ any-written₀ stray₀ p₀ reached written any-reached any-written stray p = partitions - p
+μ-loop save reads writes sources segments partitions reached₀ written₀ kept₀ there any-reached₀ any-given₀ stray₀ p₀ reached written kept any-reached any-given stray p = partitions - p
 
 bits-below-requires : tie.Need-bits-below-requires Inv-loop μ-loop
 bits-below-requires c κs = search needs
 
 loop-holds : tie.Need-loop-holds Inv-loop μ-loop
-unfolding joined someBelow
+unfolding joined someBelow keptFor
 loop-holds c =
-    let pre = c .before .before .before .before .before .before .before .pre in
-    (fill-none _ _ _ (pre .1), fill-none _ _ _ (pre .2), refl, refl, refl)
+    let pre = c .before .before .before .before .before .before .before .before .pre in
+    (fill-none _ _ _ (pre .0 .1), fill-none _ _ _ (pre .0 .2), refl, refl, refl, refl, λ t l. pre .1 .0 .1 t)
 
-cast-byte-at : tie.Need-cast-byte-at Inv-loop μ-loop
-cast-byte-at c = search needs
+cast-s : tie.Need-cast-s Inv-loop μ-loop
+cast-s c = search needs
 
-byte-at-requires : tie.Need-byte-at-requires Inv-loop μ-loop
-byte-at-requires c κs = search needs
+shared-slice-read-s : tie.Need-shared-slice-read-s Inv-loop μ-loop
+shared-slice-read-s c = search needs
 
 bit-of-requires : tie.Need-bit-of-requires Inv-loop μ-loop
 bit-of-requires c κs = search needs
 
+cast-reach : tie.Need-cast-reach Inv-loop μ-loop
+cast-reach c = search needs
+
+mul-reach : tie.Need-mul-reach Inv-loop μ-loop
+mul-reach c = search needs
+
+shared-slice-read-reach : tie.Need-shared-slice-read-reach Inv-loop μ-loop
+shared-slice-read-reach c = search needs
+
+cast-gives : tie.Need-cast-gives Inv-loop μ-loop
+cast-gives c = search needs
+
+mul-gives : tie.Need-mul-gives Inv-loop μ-loop
+mul-gives c = search needs
+
+shared-slice-read-gives : tie.Need-shared-slice-read-gives Inv-loop μ-loop
+shared-slice-read-gives c = search needs
+
 cast-mask-at : tie.Need-cast-mask-at Inv-loop μ-loop
-cast-mask-at c = search needs
+cast-mask-at c = omega (arith, c .before .before .before .shared-slice-known5 .given (c .before .before .before .before .before .loop .p))
 
 mask-at-requires : tie.Need-mask-at-requires Inv-loop μ-loop
 mask-at-requires c κs = search needs
-
-cast-mask-at-2 : tie.Need-cast-mask-at-2 Inv-loop μ-loop
-cast-mask-at-2 c = search needs
-
-mask-at-requires-2 : tie.Need-mask-at-requires-2 Inv-loop μ-loop
-mask-at-requires-2 c κs = search needs
-
-cast-mask-at-3 : tie.Need-cast-mask-at-3 Inv-loop μ-loop
-cast-mask-at-3 c = search needs
-
-mask-at-requires-3 : tie.Need-mask-at-requires-3 Inv-loop μ-loop
-mask-at-requires-3 c κs = search needs
 
 within-requires : tie.Need-within-requires Inv-loop μ-loop
 within-requires c κs = search needs
@@ -85,6 +95,12 @@ mul-written c = search needs
 slice-write-written : tie.Need-slice-write-written Inv-loop μ-loop
 slice-write-written c = search needs
 
+keep-requires : tie.Need-keep-requires Inv-loop μ-loop
+keep-requires c κs =
+    let l = c .before .before .before .before .before .before .before .before in
+    let pre = l .before .before .before .before .before .before .before .before .before .pre in
+    omega (arith, l .loop .inv .5, pre .1 .0 .0)
+
 add-p : tie.Need-add-p Inv-loop μ-loop
 add-p c = search needs
 
@@ -93,21 +109,23 @@ loop-less c = search needs
 
 loop-again : tie.Need-loop-again Inv-loop μ-loop
 loop-again c =
-    let turn = c .before .before .before .before .before in
-    let l = turn .before .before in
-    let start = l .before .before .before .before .before .before .before .before in
+    let w = c .before .before .before .before in
+    let l = w .before .before .before .before .before .before .before in
+    let start = l .before .before .before .before .before .before .before .before .before in
     let inv = l .loop .inv in
-    let more = turn .before .loop-test .taken in
+    let more = w .before .before .before .before .before .before .loop-test .taken in
     let there = l .before .bits-below .ensures in
-    let at = reached-is (start .args .segments) _ _ _ (start .pre .0) (c .before .before .before .before .bit-of .ensures) there in
-    let reach = at _ _ _ (turn .byte-at .ensures) (c .before .before .before .mask-at .ensures) in (
-      fill-more _ _ _ _ _ (inv .0) _ more reach,
-      fill-more _ _ _ _ _ (inv .1) _ more (at _ _ _ (turn .byte-at .ensures) (c .before .before .mask-at2 .ensures)),
-      joined-more _ _ _ _ (omega (arith, inv .0 .wide, inv .0 .long, more)) (inv .2),
-      joined-more _ _ _ _ (omega (arith, inv .1 .wide, inv .1 .long, more)) (inv .3),
+    let at = reached-is (start .args .segments) _ _ _ (start .pre .0 .0) (w .before .before .before .before .bit-of .ensures) there in
+    let wide : l .loop .p < length (l .loop .reached) = omega (arith, inv .0 .wide, inv .0 .long, more) in
+    let keep = c .before .before .keep .ensures in (
+      fill-more _ _ _ _ _ (inv .0) _ more (at _ _ _ refl refl),
+      fill-more _ _ _ _ _ (inv .1) _ more (at _ _ _ refl refl),
+      joined-more _ _ _ _ wide (inv .2),
+      joined-next _ _ _ _ (inv .3) refl,
       some-next _ _ _ _ (inv .4)
-          (rw (c .within .ensures)
-          (sources-told _ _ _ _ _ _ _ there reach (c .before .mask-at3 .ensures ∙ rw (turn .byte-at .ensures)))),
+          (rw (w .within .ensures) (sources-told _ _ _ _ _ _ _ there (at _ _ _ refl refl) (w .before .mask-at .ensures))),
+      keep .0 ∙ inv .5,
+      λ t k. keep .1 t k ∙ kept-more _ _ t _ _ _ wide (inv .6 t k),
     )
 
 same-length : tie.Need-same-length Inv-loop μ-loop
@@ -116,13 +134,16 @@ same-length c = c .before .loop .inv .0 .long
 same-length-2 : tie.Need-same-length-2 Inv-loop μ-loop
 same-length-2 c = c .before .loop .inv .1 .long
 
+same-length-3 : tie.Need-same-length-3 Inv-loop μ-loop
+same-length-3 c = c .before .loop .inv .5
+
 returns : tie.Need-returns Inv-loop μ-loop
 unfolding strayFlow
 returns c =
     let inv = c .before .loop .inv in
     let q = c .loop-test .left in
-    let e : c .before .loop .p ≡ c .before .before .before .before .before .before .before .before .before .args .partitions = omega (arith, q, inv .0 .within) in
-    (fill-done _ _ _ _ _ (inv .0) q, fill-done _ _ _ _ _ (inv .1) q, inv .2 ∙ rw e, inv .3 ∙ rw e, inv .4 ∙ rw e)
+    let e : c .before .loop .p ≡ c .before .before .before .before .before .before .before .before .before .before .args .partitions = omega (arith, q, inv .0 .within) in
+    (fill-done _ _ _ _ _ (inv .0) q, fill-done _ _ _ _ _ (inv .1) q, inv .2 ∙ rw e, inv .3 ∙ rw e, λ t k. inv .6 t k ∙ rw e, inv .4 ∙ rw e)
 
 pub reach-all-spec : {M : Type 1} → statement M
 reach-all-spec =
@@ -132,15 +153,17 @@ reach-all-spec =
     μ-loop
     bits-below-requires
     loop-holds
-    cast-byte-at
-    byte-at-requires
+    cast-s
+    shared-slice-read-s
     bit-of-requires
+    cast-reach
+    mul-reach
+    shared-slice-read-reach
+    cast-gives
+    mul-gives
+    shared-slice-read-gives
     cast-mask-at
     mask-at-requires
-    cast-mask-at-2
-    mask-at-requires-2
-    cast-mask-at-3
-    mask-at-requires-3
     within-requires
     cast-reached
     mul-reached
@@ -148,9 +171,11 @@ reach-all-spec =
     cast-written
     mul-written
     slice-write-written
+    keep-requires
     add-p
     loop-less
     loop-again
     same-length
     same-length-2
+    same-length-3
     returns)

@@ -18,28 +18,27 @@ abbrev μ-loop : tie.MeasureT-loop
 loop-holds : tie.Need-loop-holds Inv-loop μ-loop
 loop-holds c = search-none _ _
 
-cast-byte-at : tie.Need-cast-byte-at Inv-loop μ-loop
-cast-byte-at c = search needs
+cast-s : tie.Need-cast-s Inv-loop μ-loop
+cast-s c = search needs
 
-byte-at-requires : tie.Need-byte-at-requires Inv-loop μ-loop
-byte-at-requires c κs = search needs
+shared-slice-read-s : tie.Need-shared-slice-read-s Inv-loop μ-loop
+shared-slice-read-s c = search needs
 
-cast-mask-at : tie.Need-cast-mask-at Inv-loop μ-loop
-cast-mask-at c = search needs
+cast-bit-at : tie.Need-cast-bit-at Inv-loop μ-loop
+cast-bit-at c = search needs
 
-mask-at-requires : tie.Need-mask-at-requires Inv-loop μ-loop
-mask-at-requires c κs = search needs
+mul-bit-at : tie.Need-mul-bit-at Inv-loop μ-loop
+mul-bit-at c = search needs
+
+shared-slice-read-bit-at : tie.Need-shared-slice-read-bit-at Inv-loop μ-loop
+shared-slice-read-bit-at c = search needs
 
 bit-at-requires : tie.Need-bit-at-requires Inv-loop μ-loop
 bit-at-requires c κs = search needs
 
 returns : tie.Need-returns Inv-loop μ-loop
 unfolding codeUnreadable
-returns c =
-    search-found _ _ _ _
-    (c .before .before .before .before .loop-test .taken)
-    (rw (c .before .bit-at .ensures, c .before .before .mask-at .ensures, c .before .before .before .byte-at .ensures))
-    (c .if1 .taken)
+returns c = search-found _ _ _ _ (c .before .before .before .before .loop-test .taken) (rw (c .before .bit-at .ensures)) (c .if1 .taken)
 
 add-p : tie.Need-add-p Inv-loop μ-loop
 add-p c = search needs
@@ -50,11 +49,7 @@ loop-less c = search needs
 loop-again : tie.Need-loop-again Inv-loop μ-loop
 loop-again c =
     let l = c .before .before .before .before in
-    search-more _ _ _ _
-    (l .before .loop .inv)
-    (l .loop-test .taken)
-    (rw (c .before .bit-at .ensures, c .before .before .mask-at .ensures, c .before .before .before .byte-at .ensures))
-    (c .if1 .left)
+    search-more _ _ _ _ (l .before .loop .inv) (l .loop-test .taken) (rw (c .before .bit-at .ensures)) (c .if1 .left)
 
 returns-2 : tie.Need-returns-2 Inv-loop μ-loop
 unfolding codeUnreadable
@@ -67,10 +62,11 @@ code-unreadable-spec =
     Inv-loop
     μ-loop
     loop-holds
-    cast-byte-at
-    byte-at-requires
-    cast-mask-at
-    mask-at-requires
+    cast-s
+    shared-slice-read-s
+    cast-bit-at
+    mul-bit-at
+    shared-slice-read-bit-at
     bit-at-requires
     returns
     add-p
