@@ -10,7 +10,7 @@ use Rattle.policy.specs.Below.{someBelow, sumBelow, mostBelow}
 use Rattle.policy.specs.Limits.{Limits}
 use Rattle.policy.specs.View.{View}
 use Rattle.policy.specs.Lawful.{Lawful}
-use Rattle.policy.specs.Schedule.{roundTicks, booked, isBooked, hasSlot, ownTicks, gapFrom, silence}
+use Rattle.policy.specs.Schedule.{roundTicks, booked, isBooked, hasSlot, ticksFor, ownTicks, gapFrom, silence}
 use Rattle.policy.specs.Silence.{AddsUp, NoSlot, Alone, Less, distance, OneSlotApart, MovesLittle}
 use Rattle.policy.proofs.Laws.Below.{some-at, none-at, some-same}
 use Rattle.policy.proofs.Laws.Sums.{sum-none, sum-same, sum-exchange, sum-one, most-within, most-near}
@@ -21,7 +21,7 @@ use Rattle.policy.proofs.Laws.Slots.{gap-own, gap-other}
 pub adds-up-to : (limits : Limits) (v : View) → Lawful limits v → (n : ℕ) → v .partitions ≤ n → sumBelow n (ownTicks v) ≡ roundTicks v
 unfolding ownTicks
 adds-up-to limits v w n h =
-    sum-exchange (λ p k. cond (isBooked v p k) (v .ticks k) 0) n (v .slots)
+    sum-exchange (ticksFor v) n (v .slots)
     ∙ sum-same _ (v .ticks) (v .slots) (λ k l. sum-one (booked v k) (v .ticks k) n (omega (arith, w .owner-there k l)))
 
 pub adds-up : (limits : Limits) (v : View) → Lawful limits v → AddsUp v
@@ -50,7 +50,7 @@ module _ (v : View) (p : ℕ) where
   n = v .slots
 
   abbrev own : ℕ → ℕ
-  own k = cond (isBooked v p k) (v .ticks k) 0
+  own = ticksFor v p
 
   gap-and-own : (m x : ℕ) → x + m ≤ n + n →
       gapFrom v p m (slot n x) + before n own (x + m) + before n (v .ticks) x ≤ before n (v .ticks) (x + m) + before n own x

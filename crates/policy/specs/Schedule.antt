@@ -25,9 +25,13 @@ isBooked v p k = eqb (booked v k) p
 abbrev pub hasSlot : View → ℕ → Bool
 hasSlot v p = someBelow (v .slots) (isBooked v p)
 
+-- The ticks that slot k gives to p: its own, or none where it is booked under another.
+abbrev pub ticksFor : View → ℕ → ℕ → ℕ
+ticksFor v p k = cond (isBooked v p k) (v .ticks k) 0
+
 -- "for each partition, its ticks in one round"
 unfoldable pub ownTicks : View → ℕ → ℕ
-ownTicks v p = sumBelow (v .slots) (λ k. cond (isBooked v p k) (v .ticks k) 0)
+ownTicks v p = sumBelow (v .slots) (ticksFor v p)
 
 -- The silence tick by tick, as 02 says it.
 

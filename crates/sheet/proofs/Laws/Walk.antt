@@ -11,7 +11,7 @@ use lib.ListN.{getD, length, set, length-set}
 use lib.Seq.{getD-set-same, getD-set-other}
 use Rattle.policy.specs.Below.{sumBelow, listBelow}
 use Rattle.policy.specs.View.{View}
-use Rattle.policy.specs.Schedule.{ticksBefore, roundTicks, booked, isBooked, slotAfter, gapFrom, ownTicks}
+use Rattle.policy.specs.Schedule.{ticksBefore, roundTicks, booked, isBooked, slotAfter, gapFrom, ticksFor, ownTicks}
 use Rattle.policy.proofs.Laws.Lists.{list-is}
 use Rattle.policy.proofs.Laws.Sums.{sum-more}
 use Rattle.policy.proofs.Laws.Rounds.{slot, slot-first, slot-after}
@@ -54,9 +54,6 @@ module _ (v : View) where
   abbrev slots : ℕ
   slots = v .slots
 
-  abbrev worth : ℕ → ℕ → ℕ
-  worth p k = cond (isBooked v p k) (v .ticks k) 0
-
   -- The gap from slot k through the rest of its round and `more` slots; from past the last slot it is that from slot 0.
   abbrev pub gapOver : ℕ → ℕ → ℕ → ℕ
   gapOver more p k = gapFrom v p (more + (slots - k)) (slot slots k)
@@ -87,21 +84,21 @@ module _ (v : View) where
 
     -- The ticks of each partition in the slots from k on.
     pub own-more : (own : List ℕ) → booked v k < length own →
-        ((p : ℕ) → p < length own → getD own p 0 + sumBelow (k + 1) (worth p) ≡ ownTicks v p) →
+        ((p : ℕ) → p < length own → getD own p 0 + sumBelow (k + 1) (ticksFor v p) ≡ ownTicks v p) →
         (p : ℕ) → p < length (set own (booked v k) (getD own (booked v k) 0 + v .ticks k)) →
-        getD (set own (booked v k) (getD own (booked v k) 0 + v .ticks k)) p 0 + sumBelow k (worth p) ≡ ownTicks v p
+        getD (set own (booked v k) (getD own (booked v k) 0 + v .ticks k)) p 0 + sumBelow k (ticksFor v p) ≡ ownTicks v p
     own-more own h old =
-        each-set (λ p a. a + sumBelow k (worth p) ≡ ownTicks v p) own (booked v k) (getD own (booked v k) 0 + v .ticks k) h
-        (let mine : worth (booked v k) k ≡ v .ticks k = rw (eq-eqb (booked v k) (booked v k) refl) in
-        omega (arith, mine, old (booked v k) h, sum-more (worth (booked v k)) k))
+        each-set (λ p a. a + sumBelow k (ticksFor v p) ≡ ownTicks v p) own (booked v k) (getD own (booked v k) 0 + v .ticks k) h
+        (let mine : ticksFor v (booked v k) k ≡ v .ticks k = rw (eq-eqb (booked v k) (booked v k) refl) in
+        omega (arith, mine, old (booked v k) h, sum-more (ticksFor v (booked v k)) k))
         (λ p d b.
-        let none : worth p k ≡ 0 = rw (ne-eqb (booked v k) p (λ e. d (sym e))) in
-        omega (arith, none, old p b, sum-more (worth p) k))
+        let none : ticksFor v p k ≡ 0 = rw (ne-eqb (booked v k) p (λ e. d (sym e))) in
+        omega (arith, none, old p b, sum-more (ticksFor v p) k))
 
   -- What the first loop holds once the slots from k on are gone through.
   pub record Added (k far : ℕ) (own ahead : List ℕ) : Type 0 where
     pub far-is : far + ticksBefore v k ≡ roundTicks v
-    pub own-is : (p : ℕ) → p < length own → getD own p 0 + sumBelow k (worth p) ≡ ownTicks v p
+    pub own-is : (p : ℕ) → p < length own → getD own p 0 + sumBelow k (ticksFor v p) ≡ ownTicks v p
     pub ahead-is : (p : ℕ) → p < length ahead → getD ahead p 0 + gapOver 0 p k ≡ far
 
   none-added : (own ahead : List ℕ) → ((p : ℕ) → getD own p 0 ≡ 0) → ((p : ℕ) → getD ahead p 0 ≡ 0) → Added slots 0 own ahead
