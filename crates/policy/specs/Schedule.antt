@@ -25,7 +25,7 @@ isBooked v p k = eqb (booked v k) p
 abbrev pub hasSlot : View → ℕ → Bool
 hasSlot v p = someBelow (v .slots) (isBooked v p)
 
--- The ticks that slot k gives to p: its own, or none where it is booked under another.
+-- The ticks that slot k gives to p: all that it has, or none where it is booked under another.
 abbrev pub ticksFor : View → ℕ → ℕ → ℕ
 ticksFor v p k = cond (isBooked v p k) (v .ticks k) 0
 

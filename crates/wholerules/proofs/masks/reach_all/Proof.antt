@@ -1,5 +1,5 @@
--- The loop writes each partition's masks at its place; the invariant: those before p are written, all that they have is gathered, and so is whether
--- their save segments have a stray source.
+-- The loop writes each partition's masks at its place; the invariant: those before p are written, all that they have is gathered, what they reach is
+-- kept for their save segments, and whether one of these has a stray source is known.
 use Prim.Native.Nat.{ℕ, _-_, _<_}
 use mathlib.Core.Path.{_≡_, refl, _∙_}
 use mathlib.Core.List.{[]}
