@@ -12,10 +12,12 @@
  * 2.1: opcodes 13 and 14 load and store four bytes. Both were faults, so memory may now act otherwise under the same policy.
  * 2.2: a flow line into a save segment from a segment that its partition may not read is refused: the text by 16, the record by 10.
  * 2.3: sk_reach and sk_can_reach say who can reach whom, with 15 for a number that is no segment's. Nothing else moved.
- * 2.4: sk_sheet says how many ticks each partition has in one round, and how long it may be silent. Nothing else moved. */
-#define SEPARATION_KERNEL_VERSION_MAJOR 2
-#define SEPARATION_KERNEL_VERSION_MINOR 4
-#define SEPARATION_KERNEL_VERSION "2.4"
+ * 2.4: sk_sheet says how many ticks each partition has in one round, and how long it may be silent. Nothing else moved.
+ * 3.0: a place has a count of ticks; a place, and an answer with one, of 2.x does not fit. Opcode 15 reads the count. It was a fault, so memory may now act
+ *      otherwise under the same policy. */
+#define SEPARATION_KERNEL_VERSION_MAJOR 3
+#define SEPARATION_KERNEL_VERSION_MINOR 0
+#define SEPARATION_KERNEL_VERSION "3.0"
 
 /* The bytes of memory that Start, Pend and Run take, and the most bytes of a policy text. */
 #define SK_MEMORY_BYTES 16384
@@ -68,9 +70,10 @@ struct sk_policy {
     uint32_t sources[32];         /* of each segment: mask of those that flow into it */
 };
 
-/* A place in the schedule: a slot, and the ticks used in it. */
+/* A place in the schedule: a slot, the ticks used in it, and the count of ticks since sk_start, which every tick raises by 1, whatever it does, and which
+ * comes round to 0 after 4,294,967,295. Opcode 15 gives a program the count before its tick. */
 struct sk_place {
-    uint32_t slot, used;
+    uint32_t slot, used, count;
 };
 
 struct sk_read_result {
@@ -108,16 +111,17 @@ struct sk_read_result sk_read(const uint8_t *text, size_t text_len);
  * so nothing need be known of where a record comes from. */
 uint32_t sk_sound(struct sk_policy policy);
 
-/* Starts: the save segments become zero, all other bytes stay, and the place is slot 0 with 0 ticks used.
- * Refused: 9 or 10, and the same place. */
+/* Starts: the save segments become zero, all other bytes stay, and the place is slot 0 with 0 ticks used and count 0.
+ * Refused: 9 or 10, and the same place, count 0 too. */
 struct sk_run_result sk_start(struct sk_policy policy, uint8_t *memory, size_t memory_len);
 
 /* Pends an interrupt line (0 to 7) for a partition, which takes it in a tick of its own once it listens to it.
  * Refused: 9 to 12. */
 uint32_t sk_pend(struct sk_policy policy, uint8_t *memory, size_t memory_len, uint32_t partition, uint32_t line);
 
-/* Runs 0 to 10,000 ticks from a place, and returns the place after them.
- * Refused: 9, 10, 13 or 14, and the place that was given. */
+/* Runs 0 to 10,000 ticks from a place, and returns the place after them: its count is that of the place before and the ticks, modulo 4,294,967,296. Any
+ * count is a good one.
+ * Refused: 9, 10, 13 or 14, and the place that was given, its count with it. */
 struct sk_run_result sk_run(struct sk_policy policy, uint8_t *memory, size_t memory_len, struct sk_place place, uint32_t ticks);
 
 /* Who can reach whom: for each segment the mask of all segments from which a chain leads to it.

@@ -1,4 +1,4 @@
-"""What edge_runs.py, edge_words.py, edge_reach.py and edge_sheet.py are made of: policies, instructions, save segments, and the list of scenarios."""
+"""What edge_runs.py, edge_words.py, edge_counts.py, edge_reach.py and edge_sheet.py are made of: policies, instructions, save segments, and the list of scenarios."""
 from scenarios import Scenario
 
 TOP = 4294967295
@@ -54,6 +54,10 @@ def number(op):
 
 SET, JUMP, LISTEN = number(1), number(9), number(11)
 ADD, SUB, AND, XOR, SHIFT, LOAD, STORE, LOAD_WORD, STORE_WORD = ((lambda op: lambda a, b, c: [op, a, b, c])(op) for op in (*range(2, 9), 13, 14))
+
+
+def COUNT(a, b=0, c=0):
+    return [15, a, b, c]
 
 
 def code(*instructions):

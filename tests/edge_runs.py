@@ -4,13 +4,15 @@
     edge_runs.py ROOT     writes crates/runs/data/scenarios and crates/runs/stdout below the repository ROOT
 
 scenarios.py has the form of both files; the expected answers come from machine_reference.py, reach_reference.py and sheet_reference.py. edge_words.py has
-the calls that move four bytes at once, edge_reach.py those that ask who can reach whom, edge_sheet.py those that ask for the schedule sheet.
+the calls that move four bytes at once, edge_counts.py those about the count of ticks, edge_reach.py those that ask who can reach whom, edge_sheet.py those
+that ask for the schedule sheet.
 """
 import os
 import sys
 
 from edge_parts import ADD, AND, BACK, HALT, JUMP, LISTEN, LOAD, SET, SHIFT, STORE, SUB, WAIT, XOR
 from edge_parts import BENCH, DEMO, FULL, HIGH, SAVE, SCENARIOS, SELF, SHARED, TOP, add, bench, code, policy, save
+from edge_counts import add_counts
 from edge_reach import add_reach
 from edge_sheet import add_sheets
 from edge_words import add_words
@@ -192,9 +194,9 @@ bench("listen-replaces", LISTEN(3, 258), registers=R, handler=65535, enabled=252
 bench("listen-none", LISTEN(0, 0), registers=R, pended=255, handler=3, enabled=0)
 bench("back", BACK, SET(0, 9), n=2, registers=R, inside=1, back=4)
 bench("back-other-bytes", [12, 8, 255, 9], registers=R, inside=255, back=65535)
-for op in (15, 16, 17, 127, 128, 255):
+for op in (16, 17, 18, 31, 127, 128, 255):
     bench("opcode-%d" % op, [op, 0, 0, 0], SET(0, 1), n=2, registers=R, unused=1)
-for op, registers in enumerate(["", "a", "abc", "abc", "abc", "abc", "abc", "ab", "ab", "a", "", "", "", "ab", "ab"]):
+for op, registers in enumerate(["", "a", "abc", "abc", "abc", "abc", "abc", "ab", "ab", "a", "", "", "", "ab", "ab", "a"]):
     for x in registers:
         s = add("register-%s-of-%d" % (x, op), BENCH).start()
         for bad in (8, 16, 255):
@@ -283,6 +285,7 @@ for k in range(3):
     add("rounds-of-full-%d" % k, FULL, fill=k + 3).start().run(10000).run(5000).pend(k, k).run(1)
 
 add_words()
+add_counts()
 add_reach()
 add_sheets()
 

@@ -72,9 +72,9 @@ def sound(record):
 
 
 # "The table of opcodes says for each which operand bytes must be registers, below 8; other bytes may have all values."
-HALT, SET, ADD, SUB, AND, XOR, SHIFT, LOAD, STORE, JUMP, WAIT, LISTEN, BACK, LOAD_WORD, STORE_WORD = range(15)
-# 02, S-2, of opcodes 13 and 14: "operands as for 7 and 8".
-REGISTERS = ["", "a", "abc", "abc", "abc", "abc", "abc", "ab", "ab", "a", "", "", "", "ab", "ab"]
+HALT, SET, ADD, SUB, AND, XOR, SHIFT, LOAD, STORE, JUMP, WAIT, LISTEN, BACK, LOAD_WORD, STORE_WORD, COUNT = range(16)
+# 02, S-2, of opcodes 13 and 14: "operands as for 7 and 8"; S-8, of 15: "a must be a register".
+REGISTERS = ["", "a", "abc", "abc", "abc", "abc", "abc", "ab", "ab", "a", "", "", "", "ab", "ab", "a"]
 # How many bytes a load or a store moves. 02, S-2: "Opcode 13 loads and opcode 14 stores four bytes".
 WIDTH = {LOAD: 1, STORE: 1, LOAD_WORD: 4, STORE_WORD: 4}
 
@@ -85,10 +85,10 @@ READY, HALTED, FAULTED, WAITING = range(4)
 
 
 class Tick:
-    """One tick of a partition."""
+    """One tick of a partition, at the count of the place before it."""
 
-    def __init__(self, record, memory, partition):
-        self.record, self.memory, self.partition = record, memory, partition
+    def __init__(self, record, memory, partition, count):
+        self.record, self.memory, self.partition, self.count = record, memory, partition, count
         self.at = record.base[record.save[partition]]
 
     def get(self, field, size=1):
@@ -185,6 +185,8 @@ class Tick:
         if op == LISTEN:  # "enabled = a, handler place = n"
             self.put(ENABLED, a)
             self.put(HANDLER, n, 2)
+        if op == COUNT:  # 02, S-8: "Opcode 15 sets ra to the count before its tick"
+            self.put_register(a, self.count)
         if op == BACK:  # "counter = return place, in-handler 0"
             next_ = self.get(RETURN, 2)
             self.put(INSIDE, 0)
@@ -202,10 +204,10 @@ def start(record, memory):
     """The number and the place."""
     number = refused(record, memory)
     if number:
-        return number, (0, 0)  # "a refused Start returns slot 0 with 0 used"
+        return number, (0, 0, 0)  # "a refused Start returns slot 0 with 0 used"; 02, S-8: the count, "which Start, refused too, sets to 0"
     for s in record.save[: record.partitions]:
         memory[record.base[s] : record.base[s] + 44] = bytes(44)  # "all save segments become zero, other bytes stay"
-    return 0, (0, 0)
+    return 0, (0, 0, 0)
 
 
 def pend(record, memory, partition, line):
@@ -223,7 +225,7 @@ def pend(record, memory, partition, line):
 
 def run(record, memory, place, n):
     """The number and the place."""
-    slot, used = place
+    slot, used, count = place
     number = refused(record, memory)
     if not number and (slot >= record.slots or used >= record.ticks[slot]):
         number = 13  # "slot not in the schedule, or ticks used at or past the slot's"
@@ -232,9 +234,10 @@ def run(record, memory, place, n):
     if number:
         return number, place  # "A refused Run returns the place it was given"
     for _ in range(n):
-        Tick(record, memory, record.owner[slot]).run()  # "Current is the partition of the present slot."
+        Tick(record, memory, record.owner[slot], count).run()  # "Current is the partition of the present slot."
         # "After each tick the ticks used in the slot gain 1. At the slot's ticks the next slot begins with 0 used; after the last comes slot 0."
         used += 1
         if used == record.ticks[slot]:
             slot, used = (slot + 1) % record.slots, 0
-    return 0, (slot, used)
+        count = (count + 1) % WORD  # 02, S-8: "modulo 4,294,967,296", and "each tick raises" it
+    return 0, (slot, used, count)

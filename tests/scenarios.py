@@ -40,9 +40,9 @@ class Scenario:
         """From the place that the last Start or Run returned."""
         return self.step("run", n)
 
-    def at(self, slot, used):
+    def at(self, slot, used, count=0):
         """The place that the next Run is given."""
-        return self.step("at", slot, used)
+        return self.step("at", slot, used, count)
 
     def write(self, at, data):
         """Bytes put into memory."""
@@ -88,17 +88,17 @@ class Scenario:
 
     def expected(self):
         number, record = machine.record_of(self.text)
-        memory, place = bytearray(self.size), (0, 0)
+        memory, place = bytearray(self.size), (0, 0, 0)
         out = [("policy", number)]
         for word, numbers, data in self.steps:
             if word == "start":
                 number, place = machine.start(record, memory)
-                out.append(("start", number, "%d %d" % place))
+                out.append(("start", number, "%d %d %d" % place))
             elif word == "pend":
                 out.append(("pend %d %d" % tuple(numbers), machine.pend(record, memory, *numbers)))
             elif word == "run":
                 number, place = machine.run(record, memory, place, numbers[0])
-                out.append(("run %d" % numbers[0], number, "%d %d" % place))
+                out.append(("run %d" % numbers[0], number, "%d %d %d" % place))
             elif word == "at":
                 place = tuple(numbers)
             elif word == "write":

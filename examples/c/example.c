@@ -9,7 +9,8 @@
 #include <string.h>
 
 _Static_assert(sizeof(struct sk_policy) == 436, "the record has the layout that the library expects");
-_Static_assert(sizeof(struct sk_run_result) == 12, "so has the answer of a Run");
+_Static_assert(sizeof(struct sk_place) == 12, "so has a place");
+_Static_assert(sizeof(struct sk_run_result) == 16, "and the answer of a Run");
 _Static_assert(sizeof(struct sk_reach_result) == 132, "and the report on who can reach whom");
 _Static_assert(sizeof(struct sk_sheet_result) == 68, "and the schedule sheet");
 
@@ -87,10 +88,16 @@ static size_t load(const char *name)
     return length;
 }
 
+/* What Start or Run answered. */
+static void print_run(const char *call, struct sk_run_result run)
+{
+    printf("%s: %u, slot %u, used %u, count %u\n", call, (unsigned)run.number, (unsigned)run.place.slot, (unsigned)run.place.used, (unsigned)run.place.count);
+}
+
 static void run_program(struct sk_policy policy)
 {
     struct sk_run_result run = sk_start(policy, memory, sizeof memory);
-    printf("start: %u\n", (unsigned)run.number);
+    print_run("start", run);
 
     size_t room = policy.size[0] < sizeof program ? policy.size[0] : sizeof program;
     memcpy(memory + policy.base[0], program, room);
@@ -98,15 +105,15 @@ static void run_program(struct sk_policy policy)
     printf("pend line 8 for partition 0: %u\n", (unsigned)sk_pend(policy, memory, sizeof memory, 0, 8));
 
     run = sk_run(policy, memory, sizeof memory, run.place, 3);
-    printf("run 3 ticks: %u, slot %u, used %u\n", (unsigned)run.number, (unsigned)run.place.slot, (unsigned)run.place.used);
+    print_run("run 3 ticks", run);
     print_save(&policy, 0);
     if (policy.segments > 4)
         printf("first byte of segment 4: %u\n", memory[policy.base[4]]);
 
     run = sk_run(policy, memory, sizeof memory, run.place, 10001);
-    printf("run 10001 ticks: %u, slot %u, used %u\n", (unsigned)run.number, (unsigned)run.place.slot, (unsigned)run.place.used);
+    print_run("run 10001 ticks", run);
     run = sk_run(policy, memory, sizeof memory, run.place, 10000);
-    printf("run 10000 ticks: %u, slot %u, used %u\n", (unsigned)run.number, (unsigned)run.place.slot, (unsigned)run.place.used);
+    print_run("run 10000 ticks", run);
     print_save(&policy, 0);
 }
 

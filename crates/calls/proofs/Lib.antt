@@ -1,7 +1,8 @@
--- Laws of the operations, the normal form of a list of calls, demand 3, and where the ticks of the schedule lie.
+-- Laws of the operations, the normal form of a list of calls, demand 3, where the ticks of the schedule lie, and their count.
 pub mod Laws
 pub mod Plan
 pub mod Gap
 pub mod Separation
 pub mod Older
 pub mod SlotAt
+pub mod Count

@@ -26,8 +26,8 @@ use Rattle.calls.proofs.Plan.{Pend, Gaps, filled, plan, gaps, exec-plan
 use Rattle.calls.proofs.Gap.{Named, pends-length, gap-same}
 
 pub one-tick : OneTick
-one-tick limits tables sound t ht x y sx sy current bytes sources =
-    separation limits (viewOf tables) (sound-lawful limits tables sound) t x y ht sx sy current bytes sources
+one-tick limits tables sound t ht x y sx sy current counts bytes sources =
+    separation limits (viewOf tables) (sound-lawful limits tables sound) t x y ht sx sy current counts bytes sources
 
 -- A flow line into a source comes from a source.
 chain-closed : {v : View} {s u t : ℕ} → FlowLine v s u → Chain v u t → Source v t s
@@ -58,7 +58,7 @@ module _ (limits : Limits) (v : View) (W : Lawful limits v) (t : ℕ) (ht : t < 
   unfolding next
   next-keeps x y px r =
       record {
-        bytes = λ s c. separation limits v W s x y (source-there ht c) sx sy (ap (λ a. v .owner (a .slot)) (r .place)) (r .bytes s c)
+        bytes = λ s c. separation limits v W s x y (source-there ht c) sx sy (ap (λ a. v .owner (a .slot)) (r .place)) (ap (λ a. a .count) (r .place)) (r .bytes s c)
             (λ u g d. r .bytes u (source-closed d c));
         place = ap (moved v) (r .place);
         whole = next-stands limits v W x sx .whole;
@@ -112,7 +112,12 @@ module _ (u : Under) where
 -- What the relation gives at the end.
 end-alike : (limits : Limits) (v : View) (t : ℕ) (x y : State) → Same limits v t x y → EndAlike v t x y
 end-alike limits v t x y r =
-    record { same-bytes = r .bytes t (inl refl); same-slot = ap (λ a. a .slot) (r .place); same-used = ap (λ a. a .used) (r .place) }
+    record {
+      same-bytes = r .bytes t (inl refl);
+      same-slot = ap (λ a. a .slot) (r .place);
+      same-used = ap (λ a. a .used) (r .place);
+      same-count = ap (λ a. a .count) (r .place);
+    }
 
 pub whole-runs : WholeRuns
 unfolding SamePended

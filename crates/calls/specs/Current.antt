@@ -16,6 +16,9 @@ StandsIn v =
     (memory : List ℕ) (place : Place) → isPlace v place ≡ true →
     (i : ℕ) → afterTicks v i (stateOf memory place) .place .slot ≡ slotAt v (position v place + i)
 
--- From slot 0 with 0 used on: the current partition is the one under which the slot of the i-th tick is booked.
+-- From slot 0 with 0 used on, at any count: the current partition is the one under which the slot of the i-th tick is
+-- booked.
 abbrev pub CurrentAt : View → Type 0
-CurrentAt v = (memory : List ℕ) (i : ℕ) → current v (afterTicks v i (stateOf memory (placeOf 0 0))) ≡ booked v (slotAt v i)
+CurrentAt v =
+    (memory : List ℕ) (count i : ℕ) →
+    current v (afterTicks v i (stateOf memory (placeOf 0 0 count))) ≡ booked v (slotAt v i)

@@ -1,5 +1,5 @@
 -- In reading order: what the operations ask of a record, what they answer, the three operations, lists of calls, the separation that demand 3
--- asks, the machine with fewer opcodes, and which partition is current after so many ticks.
+-- asks, the machine with fewer opcodes, which partition is current after so many ticks, and the count of them.
 pub mod Under
 pub mod Outcomes
 pub mod Start
@@ -9,3 +9,4 @@ pub mod Lists
 pub mod Separation
 pub mod Older
 pub mod Current
+pub mod Count

@@ -1,9 +1,10 @@
--- 02, S-2: "A run that fetches neither goes as it did". Ticks and Runs of the machine whose highest opcode is `last`, and
--- that those of this machine are the same where no opcode between the two is fetched. The proofs are in proofs/.
+-- 02, S-2: "A run that fetches neither goes as it did"; S-8: "Old opcodes act as they did". Ticks and Runs of the machine
+-- whose highest opcode is `last`, and that those of this machine are the same where no opcode between the two is fetched.
+-- The proofs are in proofs/.
 use Prim.Native.Nat.{ℕ, zero, suc, _≤_, _<_}
 use mathlib.Core.Path.{_≡_}
 use Rattle.policy.specs.View.{View}
-use Rattle.machine.specs.Decode.{lastOpcode, lastOpcodeOf01}
+use Rattle.machine.specs.Decode.{lastOpcode, lastOpcodeOf01, lastOpcodeBeforeS8}
 use Rattle.machine.specs.Machine.{State, nextUpTo}
 use Rattle.machine.specs.Fetches.{Fetches}
 use Rattle.calls.specs.Under.{Under}
@@ -35,14 +36,21 @@ Older =
     (last : ℕ) → last ≤ lastOpcode →
     (v : View) (n : ℕ) (x : State) → NoneBetween last v n x → afterTicks v n x ≡ afterTicksUpTo last v n x
 
--- "A run that fetches neither": no tick that this Run does fetches 13 or 14.
-abbrev pub FetchesNeither : Under → State → ℕ → Type 0
-FetchesNeither u x n =
-    (k : ℕ) → k < did u (run n) x →
-    (Fetches (u .view) (afterTicks (u .view) k x) 13 → ⊥) × (Fetches (u .view) (afterTicks (u .view) k x) 14 → ⊥)
+-- No tick that this Run does fetches this opcode.
+abbrev pub Unfetched : ℕ → Under → State → ℕ → Type 0
+Unfetched op u x n = (k : ℕ) → k < did u (run n) x → Fetches (u .view) (afterTicks (u .view) k x) op → ⊥
 
--- "goes as it did": number, place and memory are those of document 01's machine. Of every record, sound or not.
-abbrev pub GoesAsItDid : Type 0
-GoesAsItDid =
-    (u : Under) (x : State) (n : ℕ) → FetchesNeither u x n →
-    (runAnswer u x n ≡ runAnswerUpTo lastOpcodeOf01 u x n) × (afterRun u x n ≡ afterRunUpTo lastOpcodeOf01 u x n)
+-- "goes as it did": number, place and memory are those of that machine. Of every record, sound or not.
+abbrev pub GoesAsOn : ℕ → Under → State → ℕ → Type 0
+GoesAsOn last u x n = (runAnswer u x n ≡ runAnswerUpTo last u x n) × (afterRun u x n ≡ afterRunUpTo last u x n)
+
+-- "A run that fetches neither goes as it did": one that fetches neither 13 nor 14, nor S-8's 15, goes as on document 01's
+-- machine.
+abbrev pub FetchesNeither : Type 0
+FetchesNeither =
+    (u : Under) (x : State) (n : ℕ) →
+    Unfetched 13 u x n → Unfetched 14 u x n → Unfetched 15 u x n → GoesAsOn lastOpcodeOf01 u x n
+
+-- 02, S-8: "Old opcodes act as they did": a run that does not fetch 15 goes as on the machine before.
+abbrev pub OldOpcodes : Type 0
+OldOpcodes = (u : Under) (x : State) (n : ℕ) → Unfetched 15 u x n → GoesAsOn lastOpcodeBeforeS8 u x n

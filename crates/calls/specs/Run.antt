@@ -36,7 +36,7 @@ unfoldable pub afterTicks : View → ℕ → State → State
 afterTicks v zero x = x
 afterTicks v (suc n) x = afterTicks v n (next v x)
 
--- Memory and place after a Run. "A refused Run returns the place it was given".
+-- Memory and place after a Run. "A refused Run returns the place it was given", the count with it.
 unfoldable pub afterRun : Under → State → ℕ → State
 afterRun u x n = acts (runOutcome u x n) (afterTicks (u .view) n x) x
 

@@ -15,13 +15,15 @@ use Rattle.calls.specs.Lists.{Call, exec, ticks, SamePended, Source}
 
 -- "under every accepted policy, any two memories with the same current partition, the same bytes in a segment and in
 -- every segment that this partition may read and that has a flow line into it, have the same bytes in that segment
--- after one tick of that machine". The two places may differ in slot and ticks used.
+-- after one tick of that machine". 02, S-8: "The one-tick separation rule now also takes the two counts as equal". The two
+-- places may differ in slot and ticks used.
 abbrev pub OneTick : Type 0
 OneTick =
     (limits : Limits) (tables : Tables) → Sound limits tables →
     (t : ℕ) → t < viewOf tables .segments →
     (x y : State) → Stands limits (viewOf tables) x → Stands limits (viewOf tables) y →
     current (viewOf tables) x ≡ current (viewOf tables) y →
+    x .place .count ≡ y .place .count →
     select (viewOf tables) t x ≡ select (viewOf tables) t y →
     ((s : ℕ) → Segs (viewOf tables) (current (viewOf tables) x) s → Dia (viewOf tables) t s →
     select (viewOf tables) s x ≡ select (viewOf tables) s y) →
@@ -38,15 +40,17 @@ pub record Alike (u : Under) (t : ℕ) (cs : List Call) (x : State) (ds : List C
   pub same-lines : (p : ℕ) → p < u .view .partitions → Source (u .view) t (u .view .save p) →
       SamePended u cs x ds y (ticks u cs x) p
 
--- "Then that segment has the same bytes after both lists, and the schedule stands at the same slot and ticks used."
+-- "Then that segment has the same bytes after both lists, and the schedule stands at the same slot and ticks used." 02, S-8:
+-- "over many ticks the shared place includes the count".
 pub record EndAlike (v : View) (t : ℕ) (x y : State) : Type 0 where
   pub same-bytes : select v t x ≡ select v t y
   pub same-slot : x .place .slot ≡ y .place .slot
   pub same-used : x .place .used ≡ y .place .used
+  pub same-count : x .place .count ≡ y .place .count
 
 -- "take, under one accepted policy, any two lists of Pend and Run calls, refused ones included, each call taking over
--- what the last one left, from one schedule place". The place is any, also one that 13 refuses; each list begins with
--- any memory of the head's size.
+-- what the last one left, from one schedule place". The place is any, also one that 13 refuses, and has any count; each list
+-- begins with any memory of the head's size.
 abbrev pub WholeRuns : Type 0
 WholeRuns =
     (limits : Limits) (tables : Tables) → Sound limits tables →

@@ -1,4 +1,5 @@
--- 01: "Start. 9 .. 10 .. Else all save segments become zero, other bytes stay, and the place is slot 0 with 0 used."
+-- 01: "Start. 9 .. 10 .. Else all save segments become zero, other bytes stay, and the place is slot 0 with 0 used." 02,
+-- S-8: the count, "which Start, refused too, sets to 0".
 use Prim.Native.Nat.{ℕ, zero, suc}
 use mathlib.Core.List.{List, [], _∷_}
 use lib.ListN.{replicate}
@@ -31,6 +32,6 @@ unfoldable pub afterStart : Under → List ℕ → List ℕ
 afterStart u memory =
     acts (startOutcome u memory) (cleared (u .view) (u .view .partitions) memory) memory
 
--- "a refused Start returns slot 0 with 0 used", and so does one that acts.
+-- "a refused Start returns slot 0 with 0 used", and so does one that acts; the count is 0 after both.
 unfoldable pub startAnswer : Under → List ℕ → Placed
-startAnswer u memory = record { outcome = startOutcome u memory; place = placeOf 0 0 }
+startAnswer u memory = record { outcome = startOutcome u memory; place = placeOf 0 0 0 }

@@ -19,12 +19,12 @@ use Rattle.machine.specs.Decode.{operandFits, operandsFit, instructionOf, decod
 use Rattle.machine.specs.Faults.{faults}
 use Rattle.machine.specs.Local.{advanced, resulted, jumps, waits, comesBack, actsOn, takesInterrupt, entered, interrupted, isReady}
 use Rattle.machine.specs.Machine.{next}
-use Rattle.machine.specs.Place.{isPlace, moved}
+use Rattle.machine.specs.Place.{isPlace, nextSlot, nextUsed}
 use Rattle.machine.specs.Tick.{reaches, inSegment, looks, loads, storesBytes, executes, obeys, steps, effect, tickOf}
 use Rattle.calls.specs.Run.{runOutcome, afterTicks, afterRun, runAnswer}
 use Rattle.calls.specs.Start.{startOutcome, cleared, afterStart, startAnswer}
 use Rattle.cases.specs.Cases.{allHold, cases, holds}
 
 pub claim : T (allHold cases)
-unfolding holds same cut segmentLine partitionLine rightLine flowLine slotLine wordOf lineBy linesOfPieces linesBy allDigits isNumber valueFrom decimal beginsHex hexadecimal number letters someBelow eachBelow clashes added outOfOrder outOfRange lineRefusal wholeRefusal readLinesBy readBy goodSegment goodPartition goodSlot goodRight goodFlow allZero isShaped countsFit unusedZero allUnder masksFit linesHold soundOf incomplete codeUnreadable flowMissing strayFlow half word withHalf withWord operandFits operandsFit instructionOf decodeOf fetched faults advanced resulted jumps waits comesBack actsOn takesInterrupt entered interrupted isReady next isPlace moved reaches inSegment little digits looks loads storesBytes executes obeys steps effect tickOf runOutcome afterTicks afterRun runAnswer startOutcome cleared afterStart startAnswer trailingZeros
+unfolding holds same cut segmentLine partitionLine rightLine flowLine slotLine wordOf lineBy linesOfPieces linesBy allDigits isNumber valueFrom decimal beginsHex hexadecimal number letters someBelow eachBelow clashes added outOfOrder outOfRange lineRefusal wholeRefusal readLinesBy readBy goodSegment goodPartition goodSlot goodRight goodFlow allZero isShaped countsFit unusedZero allUnder masksFit linesHold soundOf incomplete codeUnreadable flowMissing strayFlow half word withHalf withWord operandFits operandsFit instructionOf decodeOf fetched faults advanced resulted jumps waits comesBack actsOn takesInterrupt entered interrupted isReady next isPlace nextSlot nextUsed reaches inSegment little digits looks loads storesBytes executes obeys steps effect tickOf runOutcome afterTicks afterRun runAnswer startOutcome cleared afterStart startAnswer trailingZeros
 claim = tt

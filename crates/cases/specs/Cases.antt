@@ -1,5 +1,5 @@
 -- 01: "K1 to K10 are shown to hold of the definitions by one shared claim over a list of cases". The cases after these are 02's: S-2's
--- four bytes at once, S-4's "Several texts may now give one record", and S-5's stray line.
+-- four bytes at once, S-4's "Several texts may now give one record", S-5's stray line, and S-8's count of ticks.
 use Prim.Native.Nat.{ℕ, _+_, _-_}
 use mathlib.Core.Bool.{Bool, true, _&&_, not}
 use mathlib.Core.List.{List, [], _∷_, _++_}
@@ -11,7 +11,7 @@ use Rattle.policy.specs.Limits.{single}
 use Rattle.policy.specs.Refusals.{numberOf, lineNumberOf, isAccepted}
 use Rattle.policy.specs.Tables.{Tables}
 use Rattle.policy.specs.Read.{readOf}
-use Rattle.machine.specs.Place.{placeOf}
+use Rattle.machine.specs.Place.{placeOf, countAfter}
 use Rattle.machine.specs.Machine.{State}
 use Rattle.calls.specs.Under.{Under, under}
 use Rattle.calls.specs.Start.{afterStart}
@@ -37,19 +37,23 @@ found memory (b ∷ bs) = same (take (length (b .are)) (drop (b .at) memory)) (b
 pub data Case : Type 0 where
   -- a text, and the number and the line that reading it answers
   reads : List ℕ → ℕ → ℕ → Case
-  -- under the demonstration policy: the bytes put into a memory of zeros before Start, those put after it, the ticks
-  -- run from slot 0 with 0 used, the bytes then found, and the slot and the ticks used then
-  runs : List Bytes → List Bytes → ℕ → List Bytes → ℕ → ℕ → Case
+  -- under the demonstration policy: the count to begin with, the bytes put into a memory of zeros before Start, those put
+  -- after it, the ticks run from slot 0 with 0 used, the bytes then found, and the slot and the ticks used then
+  runsFrom : ℕ → List Bytes → List Bytes → ℕ → List Bytes → ℕ → ℕ → Case
   -- two different texts, both accepted, with one record
   alike : List ℕ → List ℕ → Case
+
+-- From the place that Start leaves, with count 0.
+abbrev pub runs : List Bytes → List Bytes → ℕ → List Bytes → ℕ → ℕ → Case
+runs = runsFrom 0
 
 abbrev pub policy : Under
 policy = under single (readOf single (joined demonstration) .tables)
 
 -- The state after a Start and a Run.
-abbrev pub ran : List Bytes → List Bytes → ℕ → State
-ran before after n =
-    afterRun policy (stateOf (with (afterStart policy (with (replicate (single .memory) 0) before)) after) (placeOf 0 0)) n
+abbrev pub ran : ℕ → List Bytes → List Bytes → ℕ → State
+ran count before after n =
+    afterRun policy (stateOf (with (afterStart policy (with (replicate (single .memory) 0) before)) after) (placeOf 0 0 count)) n
 
 -- Whether two records have the same entries.
 abbrev pub sameTables : Tables → Tables → Bool
@@ -72,9 +76,9 @@ unfoldable pub holds : Case → Bool
 holds (reads text n line) =
     let refusal = readOf single text .refusal in
     eqb (numberOf refusal) n && eqb (lineNumberOf refusal) line
-holds (runs before after n bytes slot used) =
-    let x = ran before after n in
-    found (x .memory) bytes && eqb (x .place .slot) slot && eqb (x .place .used) used
+holds (runsFrom count before after n bytes slot used) =
+    let x = ran count before after n in
+    found (x .memory) bytes && eqb (x .place .slot) slot && eqb (x .place .used) used && eqb (x .place .count) (countAfter n count)
 holds (alike text other) =
     let r = readOf single text in
     let o = readOf single other in
@@ -137,4 +141,11 @@ cases =
     ∷ reads (joined (set demonstration 15 (bytesOf "flow\t4\t1\nflow\t4\t3\n"))) 16 0
     ∷ reads (joined (without 11 (set demonstration 15 (bytesOf "flow\t4\t1\nflow\t4\t3\n")))) 8 0
     ∷ reads (joined (set demonstration 15 (bytesOf "flow\t4\t0\nflow\t4\t3\n"))) 0 0
+    -- S-8: the count before each of three ticks, over the end to 0; with a of 8, fault 2
+    ∷ runsFrom 4294967294 (bytes 0 (0x0f ∷ 0x00 ∷ 0xff ∷ 0xff ∷ 0x0f ∷ 0x07 ∷ 0x08 ∷ 0x80 ∷ 0x0f ∷ 0x01 ∷ 0x00 ∷ 0x00 ∷ []) ∷ [])
+    (bytes 68 (9 ∷ 9 ∷ 9 ∷ 9 ∷ []) ∷ []) 3
+    (bytes 64 (0xfe ∷ 0xff ∷ 0xff ∷ 0xff ∷ 0 ∷ 0 ∷ 0 ∷ 0 ∷ []) ∷ bytes 92 (0xff ∷ 0xff ∷ 0xff ∷ 0xff ∷ 12 ∷ 0 ∷ 0 ∷ 0 ∷ []) ∷ []) 1 0
+    ∷ runs (bytes 0 (0x0f ∷ 0x08 ∷ 0x00 ∷ 0x00 ∷ []) ∷ []) [] 1 (bytes 64 (0 ∷ []) ∷ bytes 96 (0 ∷ 0 ∷ 2 ∷ 2 ∷ []) ∷ []) 0 1
+    -- every tick counts: two instructions, and eight ticks of partitions that have halted
+    ∷ runs (bytes 0 (0x0f ∷ 0x00 ∷ 0x00 ∷ 0x00 ∷ 0x00 ∷ []) ∷ []) [] 10 (bytes 64 (0 ∷ 0 ∷ 0 ∷ 0 ∷ []) ∷ bytes 96 (4 ∷ 0 ∷ 1 ∷ 0 ∷ []) ∷ []) 0 0
     ∷ []

@@ -33,19 +33,20 @@ fn instruction(op: u8, a: u8, b: u8, c: u8) -> Decoded
         12 => Decoded::Runs(Instr::Back),
         13 => Decoded::Runs(Instr::LoadWord(ra, rb, rc)),
         14 => Decoded::Runs(Instr::StoreWord(ra, rb, rc)),
-        15..=255 => Decoded::Bad,
+        15 => Decoded::Runs(Instr::Count(ra)),
+        16..=255 => Decoded::Bad,
     }
 }
 
 // By opcode, which operand bytes must be registers: 1 for a, 2 for b, 4 for c.
-const REGISTERS: [u8; 15] = [0, 1, 7, 7, 7, 7, 7, 3, 3, 1, 0, 0, 0, 3, 3];
+const REGISTERS: [u8; 16] = [0, 1, 7, 7, 7, 7, 7, 3, 3, 1, 0, 0, 0, 3, 3, 1];
 
 // Past the table no operand must be a register.
 fn mask_of(op: u8) -> u8
     ensures { λ r. ⌜ r ≡ getD registerMasks op 0 ⌝ }
 {
     let i = op as usize;
-    if i < 15 {
+    if i < 16 {
         return REGISTERS[i];
     }
     0
@@ -91,7 +92,8 @@ pub fn decode(op: u8, a: u8, b: u8, c: u8) -> Decoded
         12 => tested(12, a, b, c),
         13 => tested(13, a, b, c),
         14 => tested(14, a, b, c),
-        15..=255 => Decoded::Bad,
+        15 => tested(15, a, b, c),
+        16..=255 => Decoded::Bad,
     }
 }
 

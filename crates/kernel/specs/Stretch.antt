@@ -1,9 +1,11 @@
 -- A stretch of a Run: ticks of one partition, one after another.
 use Prim.Native.Nat.{ℕ, zero, suc}
 use mathlib.Core.List.{List}
+use Rattle.machine.specs.Place.{countAfter}
 use Rattle.machine.specs.Tick.{Seat, tickOf}
 
--- Memory after n ticks of the partition with this code and this save segment.
-unfoldable pub tickedBy : Seat → ℕ → ℕ → ℕ → List ℕ → List ℕ
-tickedBy S code save zero memory = memory
-tickedBy S code save (suc n) memory = tickedBy S code save n (tickOf S code save memory)
+-- Memory after n ticks of the partition with this code and this save segment, the first of them at this count.
+unfoldable pub tickedBy : Seat → ℕ → ℕ → ℕ → ℕ → List ℕ → List ℕ
+tickedBy S code save count zero memory = memory
+tickedBy S code save count (suc n) memory =
+    tickedBy S code save (countAfter 1 count) n (tickOf S code save count memory)

@@ -43,7 +43,11 @@ pub fn start(policy: Policy, memory: &mut [u8]) -> Placed
         × (now (memory .exit) ≡ afterStart (underPolicy policy) (now (memory .entry)))
         ⌝ }
 {
-    let place = Place { slot: 0, used: 0 };
+    let place = Place {
+        slot: 0,
+        used: 0,
+        count: 0,
+    };
     if memory.len() != MEMORY {
         return Placed {
             outcome: Outcome::WrongMemory,

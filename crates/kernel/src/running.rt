@@ -23,8 +23,8 @@ ghost use Rattle.calls.specs.Under.{underPolicy};
 ghost use Rattle.calls.specs.Run.{stateOf, afterTicks, runAnswer, afterRun};
 ghost use Rattle.kernel.specs.Stretch.{tickedBy};
 
-// n ticks of the partition with this code, this save segment and these masks. After one that does nothing the others do
-// nothing either.
+// n ticks of the partition with this code, this save segment and these masks, the first at this count. After one that does
+// nothing the others do nothing either, since whether a partition is able does not hang on the count.
 fn stretch<'a>(
     memory: &mut [u8],
     base: &'a [u16],
@@ -34,22 +34,25 @@ fn stretch<'a>(
     segments: u8,
     code: u8,
     save: u8,
+    count: u32,
     n: u32,
 )
     requires { ⌜ Seated (now base) (now size) segments code save (length (now memory)) ⌝ }
     ensures { λ _.
         ⌜
         now (memory .exit)
-        ≡ tickedBy (seatOf (now (base .entry)) (now (size .entry)) reads writes segments) code save n
+        ≡ tickedBy (seatOf (now (base .entry)) (now (size .entry)) reads writes segments) code save count n
         (now (memory .entry))
         ⌝ }
 {
-    let mut i: u32 = 0;
-    while i < n {
-        if !tick(memory, base, size, reads, writes, segments, code, save) {
+    let mut at = count;
+    let mut left: u32 = n;
+    while 0 < left {
+        if !tick(memory, base, size, reads, writes, segments, code, save, at) {
             return;
         }
-        i += 1;
+        at = std::num::wrapping_add_u32(at, 1);
+        left -= 1;
     }
 }
 
@@ -74,7 +77,7 @@ fn run_ticks(policy: Policy, memory: &mut [u8], place: Place, n: u32) -> Place
         let reads = policy.reads[owner] as u64;
         let writes = policy.writes[owner] as u64;
         let ticks = policy.ticks[slot];
-        let count = lesser(left, ticks as u32 - here.used);
+        let many = lesser(left, ticks as u32 - here.used);
         stretch(
             memory,
             &policy.base,
@@ -84,10 +87,11 @@ fn run_ticks(policy: Policy, memory: &mut [u8], place: Place, n: u32) -> Place
             policy.segments,
             code,
             save,
-            count,
+            here.count,
+            many,
         );
-        here = move_by(here, count, ticks, policy.slots);
-        left -= count;
+        here = move_by(here, many, ticks, policy.slots);
+        left -= many;
     }
     here
 }

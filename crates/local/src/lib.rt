@@ -62,9 +62,9 @@ fn back(s: &mut [u8])
     }
 }
 
-// One instruction; a load or a store, which are lent more than these bytes, changes nothing here.
-pub fn act(s: &mut [u8], i: Instr)
-    ensures { λ _. ⌜ now (s .exit) ≡ actsOn (now (s .entry)) i ⌝ }
+// One instruction at a count of ticks; a load or a store, which are lent more than these bytes, changes nothing here.
+pub fn act(s: &mut [u8], count: u32, i: Instr)
+    ensures { λ _. ⌜ now (s .exit) ≡ actsOn (now (s .entry)) count i ⌝ }
 {
     match i {
         Instr::Halt => put(s, STATE, HALTED),
@@ -101,5 +101,6 @@ pub fn act(s: &mut [u8], i: Instr)
         Instr::Back => back(s),
         Instr::LoadWord(_, _, _) => {}
         Instr::StoreWord(_, _, _) => {}
+        Instr::Count(a) => put_result(s, a, count),
     }
 }

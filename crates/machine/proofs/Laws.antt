@@ -4,3 +4,4 @@ pub mod Opcodes
 pub mod Tests
 pub mod Places
 pub mod Positions
+pub mod Written

@@ -3,25 +3,24 @@
 use Prim.Native.Nat.{ℕ, _+_, _≤_, _<_}
 use native.Mathlib.Omega.{arith}
 use mathlib.Core.Path.{_≡_, refl, sym, _∙_, ap}
-use mathlib.Core.Bool.{Bool, true, false, cond}
+use mathlib.Core.Bool.{Bool, true, false}
 use mathlib.Core.List.{List}
 use lib.Dec.{ltb}
 use lib.ListN.{getD}
 use borrow.Author.Tests.{ltb-true, ltb-false, le-ltb}
 use Rattle.policy.specs.View.{View}
-use Rattle.machine.specs.declared.Instr.the-variants.{Halt, Set, Add, Sub, And, Xor, Shift, Load, Store, Jump, Wait, Listen, Back, LoadWord, StoreWord}
+use Rattle.machine.specs.declared.Instr.the-variants.{Halt, Set, Add, Sub, And, Xor, Shift, Load, Store, Jump, Wait, Listen, Back, LoadWord, StoreWord, Count}
 use Rattle.machine.specs.declared.Decoded.{Decoded}
 use Rattle.machine.specs.declared.Decoded.the-variants.{Runs, Bad}
 use Rattle.machine.specs.Save.{counter}
 use Rattle.machine.specs.Decode.{lastOpcode, instructionOf, decodeOf, fetched}
-use Rattle.machine.specs.declared.Fault.the-variants.{CounterOver}
-use Rattle.machine.specs.Faults.{faults}
 use Rattle.machine.specs.Place.{moved}
-use Rattle.machine.specs.Local.{takesInterrupt, interrupted, isReady}
+use Rattle.machine.specs.Local.{takesInterrupt, isReady}
 use Rattle.machine.specs.Tick.{Effect, none, saves, stores, Sees, looks, sees, loads, storesBytes, executes, obeys, steps, effect, applied, tickOf}
 use Rattle.machine.specs.Machine.{State, current, seatUpTo, nextUpTo, seat, next}
 use Rattle.machine.specs.Fetches.{Fetches}
 use Rattle.machine.proofs.Laws.Opcodes.{decode-above}
+use Rattle.machine.proofs.Laws.Tests.{instruction-decides}
 
 -- Both machines decode an opcode that is not above `last`, and one above both lists, alike.
 decode-kept : (last op a b c : ℕ) → op ≤ last → last ≤ lastOpcode → decodeOf lastOpcode op a b c ≡ decodeOf last op a b c
@@ -38,24 +37,25 @@ decode-alike last op a b c k free = go (ltb last op) refl (ltb lastOpcode op) re
         decode-above lastOpcode op a b c (ltb-true lastOpcode op f) ∙ sym (decode-above last op a b c (ltb-true last op e))
 
 module _ (v : View) (last p : ℕ) where
-  obeys-alike : (s : List ℕ) (look : ℕ → List ℕ) (d : Decoded) → obeys (seatUpTo v lastOpcode p) s look d ≡ obeys (seatUpTo v last p) s look d
+  obeys-alike : (s : List ℕ) (look : ℕ → List ℕ) (k : ℕ) (d : Decoded) → obeys (seatUpTo v lastOpcode p) s look k d ≡ obeys (seatUpTo v last p) s look k d
   unfolding obeys executes loads storesBytes
-  obeys-alike s look Bad = refl
-  obeys-alike s look (Runs Halt) = refl
-  obeys-alike s look (Runs (Set a n)) = refl
-  obeys-alike s look (Runs (Add a b c)) = refl
-  obeys-alike s look (Runs (Sub a b c)) = refl
-  obeys-alike s look (Runs (And a b c)) = refl
-  obeys-alike s look (Runs (Xor a b c)) = refl
-  obeys-alike s look (Runs (Shift a b c)) = refl
-  obeys-alike s look (Runs (Load a b c)) = refl
-  obeys-alike s look (Runs (Store a b c)) = refl
-  obeys-alike s look (Runs (Jump a n)) = refl
-  obeys-alike s look (Runs Wait) = refl
-  obeys-alike s look (Runs (Listen a n)) = refl
-  obeys-alike s look (Runs Back) = refl
-  obeys-alike s look (Runs (LoadWord a b c)) = refl
-  obeys-alike s look (Runs (StoreWord a b c)) = refl
+  obeys-alike s look k Bad = refl
+  obeys-alike s look k (Runs Halt) = refl
+  obeys-alike s look k (Runs (Set a n)) = refl
+  obeys-alike s look k (Runs (Add a b c)) = refl
+  obeys-alike s look k (Runs (Sub a b c)) = refl
+  obeys-alike s look k (Runs (And a b c)) = refl
+  obeys-alike s look k (Runs (Xor a b c)) = refl
+  obeys-alike s look k (Runs (Shift a b c)) = refl
+  obeys-alike s look k (Runs (Load a b c)) = refl
+  obeys-alike s look k (Runs (Store a b c)) = refl
+  obeys-alike s look k (Runs (Jump a n)) = refl
+  obeys-alike s look k (Runs Wait) = refl
+  obeys-alike s look k (Runs (Listen a n)) = refl
+  obeys-alike s look k (Runs Back) = refl
+  obeys-alike s look k (Runs (LoadWord a b c)) = refl
+  obeys-alike s look k (Runs (StoreWord a b c)) = refl
+  obeys-alike s look k (Runs (Count a)) = refl
 
   applied-alike : (from : ℕ) (e : Effect) (m : List ℕ) → applied (seatUpTo v lastOpcode p) from e m ≡ applied (seatUpTo v last p) from e m
   applied-alike from none m = refl
@@ -67,7 +67,7 @@ module _ (v : View) (last : ℕ) (k : last ≤ lastOpcode) (x : State) (none-bet
   p = current v x
 
   abbrev here : Sees
-  here = sees (seatUpTo v last p) (v .code p) (v .save p) (x .memory)
+  here = sees (seatUpTo v last p) (v .code p) (v .save p) (x .place .count) (x .memory)
 
   abbrev room : ℕ
   room = v .size (v .code p)
@@ -79,25 +79,12 @@ module _ (v : View) (last : ℕ) (k : last ≤ lastOpcode) (x : State) (none-bet
       decode-alike last _ _ _ _ k
       (λ above below. none-between _ above below (record { no-interrupt = e; ready = f; inside = ltb-false _ _ g; at-counter = refl }))
 
-  -- The effect by the answers of its three tests, with what an instruction does.
-  abbrev chosen : Bool → Bool → Bool → Effect → Effect
-  chosen i r o e = cond i (saves (interrupted (here .saved))) (cond r (cond o (saves (faults (here .saved) CounterOver)) e) none)
-
-  -- What the instruction at the counter does, on a machine with this highest opcode.
-  abbrev runs : ℕ → Effect
-  runs top = obeys (seatUpTo v top p) (here .saved) (here .look) (fetched top (here .code) (counter (here .saved)))
-
   effect-alike : effect (seatUpTo v lastOpcode p) room here ≡ effect (seatUpTo v last p) room here
   unfolding effect steps
-  effect-alike = go (takesInterrupt (here .saved)) refl (isReady (here .saved)) refl (ltb room (counter (here .saved) + 4)) refl
-    where
-      go : (i : Bool) → takesInterrupt (here .saved) ≡ i → (r : Bool) → isReady (here .saved) ≡ r → (o : Bool) → ltb room (counter (here .saved) + 4) ≡ o
-          → chosen i r o (runs lastOpcode) ≡ chosen i r o (runs last)
-      go true e r f o g = refl
-      go false e false f o g = refl
-      go false e true f true g = refl
-      go false e true f false g =
-          obeys-alike v last p (here .saved) (here .look) _ ∙ ap (obeys (seatUpTo v last p) (here .saved) (here .look)) (fetched-alike e f g)
+  effect-alike =
+      instruction-decides (here .saved) room _ _
+      (λ e f g. obeys-alike v last p (here .saved) (here .look) (here .count) _
+      ∙ ap (obeys (seatUpTo v last p) (here .saved) (here .look) (here .count)) (fetched-alike e f g))
 
   pub older-tick : next v x ≡ nextUpTo v last x
   unfolding next tickOf looks
@@ -109,9 +96,9 @@ module _ (v : View) (last : ℕ) (k : last ≤ lastOpcode) (x : State) (none-bet
 -- A tick that fetches an opcode does what is decoded from it and the three bytes behind it, and nothing else: `Fetches` says no more than that.
 pub fetches-obeys : (v : View) (x : State) (op : ℕ) → Fetches v x op →
     let p = current v x in
-    let here = sees (seat v p) (v .code p) (v .save p) (x .memory) in
+    let here = sees (seat v p) (v .code p) (v .save p) (x .place .count) (x .memory) in
     let at = counter (here .saved) in
     effect (seat v p) (v .size (v .code p)) here
-    ≡ obeys (seat v p) (here .saved) (here .look) (decodeOf lastOpcode op (getD (here .code) (at + 1) 0) (getD (here .code) (at + 2) 0) (getD (here .code) (at + 3) 0))
+    ≡ obeys (seat v p) (here .saved) (here .look) (here .count) (decodeOf lastOpcode op (getD (here .code) (at + 1) 0) (getD (here .code) (at + 2) 0) (getD (here .code) (at + 3) 0))
 unfolding effect steps fetched
 fetches-obeys v x op f = rw (f .no-interrupt, f .ready, le-ltb _ _ (f .inside), f .at-counter)

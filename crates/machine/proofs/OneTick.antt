@@ -1,4 +1,4 @@
--- Two memories that are equal on R(p) give p the same effect (law A), and the effect stays in W(p) (law B); with rule 8 that separates one tick.
+-- Two memories that are equal on R(p), with equal counts, give p the same effect (law A), and the effect stays in W(p) (law B); with rule 8 that separates one tick.
 -- No case on the instruction stands here.
 use Prim.Native.Nat.{ℕ, zero, suc, _+_, _≤_, _<_}
 use native.Mathlib.Omega.{arith}
@@ -141,19 +141,19 @@ module _ (limits : Limits) (v : View) (W : Lawful limits v) where
     applied-patched (saves ys) m l k = rw add-zero (with-sets m (v .base (v .save p)) 44 ys (save-fits m l) k)
     applied-patched (stores ys s at bs) m l k = rw (add-zero, with-sets m (v .base (v .save p)) 44 ys (save-fits m l) (k .0))
 
-    abbrev seen : List ℕ → Sees
-    seen m = sees (seat v p) (v .code p) (v .save p) m
+    abbrev seen : ℕ → List ℕ → Sees
+    seen k m = sees (seat v p) (v .code p) (v .save p) k m
 
-    abbrev done : List ℕ → Effect
-    done m = effect (seat v p) (v .size (v .code p)) (seen m)
+    abbrev done : ℕ → List ℕ → Effect
+    done k m = effect (seat v p) (v .size (v .code p)) (seen k m)
 
-    saved-length : (m : List ℕ) → length m ≡ limits .memory → length (part m (v .base (v .save p)) 44) ≡ 44
+    pub saved-length : (m : List ℕ) → length m ≡ limits .memory → length (part m (v .base (v .save p)) 44) ≡ 44
     saved-length m l = rw (length-take, length-drop) (omega (arith, save-fits m l))
 
-    -- Law A: memories that are equal on R(p) look the same to p.
-    pub law-A : (m m′ : List ℕ) → ((s : ℕ) → Segs v p s → bytesOf s m ≡ bytesOf s m′) → seen m ≡ seen m′
+    -- Law A: memories that are equal on R(p) look the same to p, if the counts are equal too.
+    pub law-A : (k k′ : ℕ) (m m′ : List ℕ) → k ≡ k′ → ((s : ℕ) → Segs v p s → bytesOf s m ≡ bytesOf s m′) → seen k m ≡ seen k′ m′
     unfolding looks
-    law-A m m′ same = rw (saved, code, fun-ext (λ s. look s (mayLoad (seat v p) s) refl))
+    law-A k k′ m m′ ek same = rw (ek, saved, code, fun-ext (λ s. look s (mayLoad (seat v p) s) refl))
       where
         saved : part m (v .base (v .save p)) 44 ≡ part m′ (v .base (v .save p)) 44
         saved = rw (← W .save-size p hp) (same (v .save p) (record { there = W .save-there p hp; read = save-readable v p }))
@@ -166,62 +166,66 @@ module _ (limits : Limits) (v : View) (W : Lawful limits v) where
         look s false e = refl
 
     -- So the effect is the same.
-    pub same-effect : (m m′ : List ℕ) → ((s : ℕ) → Segs v p s → bytesOf s m ≡ bytesOf s m′) → done m ≡ done m′
-    same-effect m m′ same = ap (effect (seat v p) (v .size (v .code p))) (law-A m m′ same)
+    pub same-effect : (k k′ : ℕ) (m m′ : List ℕ) → k ≡ k′ → ((s : ℕ) → Segs v p s → bytesOf s m ≡ bytesOf s m′) → done k m ≡ done k′ m′
+    same-effect k k′ m m′ ek same = ap (effect (seat v p) (v .size (v .code p))) (law-A k k′ m m′ ek same)
 
     -- Law B: a tick's writes lie in W(p), inside the segment.
-    pub law-B : (m : List ℕ) → length m ≡ limits .memory → Allowed v p (patches (v .save p) (done m))
-    law-B m l = touches-allowed (done m) (effect-touches (seat v p) (v .size (v .code p)) (seen m) (saved-length m l))
+    pub law-B : (k : ℕ) (m : List ℕ) → length m ≡ limits .memory → Allowed v p (patches (v .save p) (done k m))
+    law-B k m l = touches-allowed (done k m) (effect-touches (seat v p) (v .size (v .code p)) (seen k m) (saved-length m l))
 
-    abbrev after : List ℕ → List ℕ
-    after m = tickOf (seat v p) (v .code p) (v .save p) m
+    abbrev after : ℕ → List ℕ → List ℕ
+    after k m = tickOf (seat v p) (v .code p) (v .save p) k m
 
-    after-patched : (m : List ℕ) → length m ≡ limits .memory → after m ≡ patched v (patches (v .save p) (done m)) m
+    after-patched : (k : ℕ) (m : List ℕ) → length m ≡ limits .memory → after k m ≡ patched v (patches (v .save p) (done k m)) m
     unfolding tickOf
-    after-patched m l = applied-patched (done m) m l (effect-touches (seat v p) (v .size (v .code p)) (seen m) (saved-length m l))
+    after-patched k m l = applied-patched (done k m) m l (effect-touches (seat v p) (v .size (v .code p)) (seen k m) (saved-length m l))
 
-    pub after-length : (m : List ℕ) → length m ≡ limits .memory → length (after m) ≡ limits .memory
-    after-length m l = rw (after-patched m l) (patched-length v (patches (v .save p) (done m)) m ∙ l)
+    pub after-length : (k : ℕ) (m : List ℕ) → length m ≡ limits .memory → length (after k m) ≡ limits .memory
+    after-length k m l = rw (after-patched k m l) (patched-length v (patches (v .save p) (done k m)) m ∙ l)
 
     -- Every byte outside W(p) is unchanged, bytes in no segment too.
-    pub unchanged : (m : List ℕ) (i : ℕ) → length m ≡ limits .memory → ((s : ℕ) → s < v .segments → writable v p s ≡ true → (i < v .base s) ⊎ (v .base s + v .size s ≤ i)) → getD (after m) i 0 ≡ getD m i 0
-    unchanged m i l out = rw (after-patched m l) (byte-outside v p i (patches (v .save p) (done m)) m (law-B m l) out)
+    pub unchanged : (k : ℕ) (m : List ℕ) (i : ℕ) → length m ≡ limits .memory
+        → ((s : ℕ) → s < v .segments → writable v p s ≡ true → (i < v .base s) ⊎ (v .base s + v .size s ≤ i)) → getD (after k m) i 0 ≡ getD m i 0
+    unchanged k m i l out = rw (after-patched k m l) (byte-outside v p i (patches (v .save p) (done k m)) m (law-B k m l) out)
 
     -- The bytes of t after a tick: the effect's patches on the bytes of t before it.
-    after-select : (t : ℕ) (m : List ℕ) → t < v .segments → length m ≡ limits .memory → bytesOf t (after m) ≡ patchIn v t (patches (v .save p) (done m)) (bytesOf t m)
-    after-select t m ht l = rw (after-patched m l) (patched-select p t (patches (v .save p) (done m)) m ht (law-B m l))
+    after-select : (t k : ℕ) (m : List ℕ) → t < v .segments → length m ≡ limits .memory → bytesOf t (after k m) ≡ patchIn v t (patches (v .save p) (done k m)) (bytesOf t m)
+    after-select t k m ht l = rw (after-patched k m l) (patched-select p t (patches (v .save p) (done k m)) m ht (law-B k m l))
 
-    pub tick-separates : (t : ℕ) (m m′ : List ℕ) → t < v .segments → length m ≡ limits .memory → length m′ ≡ limits .memory → bytesOf t m ≡ bytesOf t m′
-        → ((s : ℕ) → Segs v p s → Dia v t s → bytesOf s m ≡ bytesOf s m′) → bytesOf t (after m) ≡ bytesOf t (after m′)
-    tick-separates t m m′ ht l l′ et es = after-select t m ht l ∙ go (writable v p t) refl ∙ sym (after-select t m′ ht l′)
+    pub tick-separates : (t k k′ : ℕ) (m m′ : List ℕ) → t < v .segments → length m ≡ limits .memory → length m′ ≡ limits .memory
+        → k ≡ k′ → bytesOf t m ≡ bytesOf t m′
+        → ((s : ℕ) → Segs v p s → Dia v t s → bytesOf s m ≡ bytesOf s m′) → bytesOf t (after k m) ≡ bytesOf t (after k′ m′)
+    tick-separates t k k′ m m′ ht l l′ ek et es = after-select t k m ht l ∙ go (writable v p t) refl ∙ sym (after-select t k′ m′ ht l′)
       where
         same : writable v p t ≡ true → (s : ℕ) → Dec (s ≡ t) → Segs v p s → bytesOf s m ≡ bytesOf s m′
         same w s (yes e) r = rw e et
         same w s (no n) r =
             es s r (record { from = r .there; to = ht; stands = W .flow-asked p t s hp ht (r .there) w (r .read) n })
 
-        go : (b : Bool) → writable v p t ≡ b → patchIn v t (patches (v .save p) (done m)) (bytesOf t m) ≡ patchIn v t (patches (v .save p) (done m′)) (bytesOf t m′)
+        go : (b : Bool) → writable v p t ≡ b → patchIn v t (patches (v .save p) (done k m)) (bytesOf t m) ≡ patchIn v t (patches (v .save p) (done k′ m′)) (bytesOf t m′)
         go true w =
             ap₂ (λ e b. patchIn v t (patches (v .save p) e) b)
-            (same-effect m m′ (λ s r. same w s (ℕ-discrete s t) r)) et
-        go false w = outside v p t _ _ (law-B m l) w ∙ et ∙ sym (outside v p t _ _ (law-B m′ l′) w)
+            (same-effect k k′ m m′ ek (λ s r. same w s (ℕ-discrete s t) r)) et
+        go false w = outside v p t _ _ (law-B k m l) w ∙ et ∙ sym (outside v p t _ _ (law-B k′ m′ l′) w)
 
-  -- Source document 003's separation: two states with the same current partition, equal in t and in each segment of segs(current) and dia(t), have
-  -- equal t after next.
+  -- Source document 003's separation, in the form of 02, S-8: two states with the same current partition and the same count, equal in t and in each
+  -- segment of segs(current) and dia(t), have equal t after next.
   pub separation : (t : ℕ) (x y : State) → t < v .segments → Stands limits v x → Stands limits v y → current v x ≡ current v y
+      → x .place .count ≡ y .place .count
       → select v t x ≡ select v t y
       → ((s : ℕ) → Segs v (current v x) s → Dia v t s → select v s x ≡ select v s y)
       → select v t (next v x) ≡ select v t (next v y)
   unfolding next
-  separation t x y ht sx sy same et es =
+  separation t x y ht sx sy same ek et es =
       rw (← same)
-      (tick-separates (current v x) (W .owner-there (x .place .slot) (slot-there v (x .place) (sx .placed))) t (x .memory) (y .memory) ht (sx .whole) (sy .whole) et es)
+      (tick-separates (current v x) (W .owner-there (x .place .slot) (slot-there v (x .place) (sx .placed))) t (x .place .count) (y .place .count) (x .memory) (y .memory)
+      ht (sx .whole) (sy .whole) ek et es)
 
   -- A tick keeps memory's size, and the place in the schedule.
   pub next-stands : (x : State) → Stands limits v x → Stands limits v (next v x)
   unfolding next
   next-stands x s =
       record {
-        whole = after-length (current v x) (W .owner-there (x .place .slot) (slot-there v (x .place) (s .placed))) (x .memory) (s .whole);
+        whole = after-length (current v x) (W .owner-there (x .place .slot) (slot-there v (x .place) (s .placed))) (x .place .count) (x .memory) (s .whole);
         placed = moved-stays limits v (x .place) W (s .placed);
       }

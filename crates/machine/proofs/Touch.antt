@@ -9,7 +9,7 @@ use lib.Dec.{ltb, eqb}
 use lib.ListN.{length, set, length-set}
 use borrow.Author.Tests.{leb-true}
 use Rattle.machine.specs.declared.Instr.{Instr}
-use Rattle.machine.specs.declared.Instr.the-variants.{Halt, Set, Add, Sub, And, Xor, Shift, Load, Store, Jump, Wait, Listen, Back, LoadWord, StoreWord}
+use Rattle.machine.specs.declared.Instr.the-variants.{Halt, Set, Add, Sub, And, Xor, Shift, Load, Store, Jump, Wait, Listen, Back, LoadWord, StoreWord, Count}
 use Rattle.machine.specs.declared.Decoded.{Decoded}
 use Rattle.machine.specs.declared.Decoded.the-variants.{Runs, Bad}
 use Rattle.machine.specs.declared.Fault.{Fault}
@@ -43,7 +43,7 @@ length-advanced : (s : List ℕ) → length (advanced s) ≡ length s
 unfolding advanced withHalf
 length-advanced s = simp length-set
 
-length-resulted : (s : List ℕ) (r n : ℕ) → length (resulted s r n) ≡ length s
+pub length-resulted : (s : List ℕ) (r n : ℕ) → length (resulted s r n) ≡ length s
 unfolding resulted advanced withHalf withWord
 length-resulted s r n = simp length-set
 
@@ -72,51 +72,53 @@ module _ (S : Seat) where
       (length-faults s OffsetOver ∙ h))
       (length-faults s NoRight ∙ h)
 
-  acts-long : (s : List ℕ) (i : Instr) → Long s → Long (actsOn s i)
+  acts-long : (s : List ℕ) (count : ℕ) (i : Instr) → Long s → Long (actsOn s count i)
   unfolding actsOn jumps waits comesBack
-  acts-long s Halt h = length-put s 34 1 ∙ h
-  acts-long s (Set a n) h = length-resulted s a n ∙ h
-  acts-long s (Add a b c) h = length-resulted s a _ ∙ h
-  acts-long s (Sub a b c) h = length-resulted s a _ ∙ h
-  acts-long s (And a b c) h = length-resulted s a _ ∙ h
-  acts-long s (Xor a b c) h = length-resulted s a _ ∙ h
-  acts-long s (Shift a b c) h = length-resulted s a _ ∙ h
-  acts-long s (Load a b c) h = h
-  acts-long s (Store a b c) h = h
-  acts-long s (LoadWord a b c) h = h
-  acts-long s (StoreWord a b c) h = h
-  acts-long s (Jump a n) h =
+  acts-long s count Halt h = length-put s 34 1 ∙ h
+  acts-long s count (Set a n) h = length-resulted s a n ∙ h
+  acts-long s count (Add a b c) h = length-resulted s a _ ∙ h
+  acts-long s count (Sub a b c) h = length-resulted s a _ ∙ h
+  acts-long s count (And a b c) h = length-resulted s a _ ∙ h
+  acts-long s count (Xor a b c) h = length-resulted s a _ ∙ h
+  acts-long s count (Shift a b c) h = length-resulted s a _ ∙ h
+  acts-long s count (Load a b c) h = h
+  acts-long s count (Store a b c) h = h
+  acts-long s count (LoadWord a b c) h = h
+  acts-long s count (StoreWord a b c) h = h
+  acts-long s count (Count a) h = length-resulted s a count ∙ h
+  acts-long s count (Jump a n) h =
       cond-both Long (eqb (register s a) 0) (λ _. length-advanced s ∙ h) (length-half s 32 n ∙ h)
-  acts-long s Wait h =
+  acts-long s count Wait h =
       cond-both Long (inHandler s) (λ _. length-faults s WrongHandler ∙ h) (length-put (advanced s) 34 3 ∙ length-advanced s ∙ h)
-  acts-long s (Listen a n) h = length-advanced _ ∙ length-half _ 40 n ∙ length-put s 37 a ∙ h
-  acts-long s Back h =
+  acts-long s count (Listen a n) h = length-advanced _ ∙ length-half _ 40 n ∙ length-put s 37 a ∙ h
+  acts-long s count Back h =
       cond-both Long (inHandler s)
       (λ _. length-put (withHalf s 32 (half s 38)) 42 0 ∙ length-half s 32 (half s 38) ∙ h)
       (length-faults s WrongHandler ∙ h)
 
-  executes-touches : (s : List ℕ) (look : ℕ → List ℕ) (i : Instr) → Long s → Touches S (executes S s look i)
+  executes-touches : (s : List ℕ) (look : ℕ → List ℕ) (count : ℕ) (i : Instr) → Long s → Touches S (executes S s look count i)
   unfolding executes
-  executes-touches s look Halt h = acts-long s Halt h
-  executes-touches s look (Set a n) h = acts-long s (Set a n) h
-  executes-touches s look (Add a b c) h = acts-long s (Add a b c) h
-  executes-touches s look (Sub a b c) h = acts-long s (Sub a b c) h
-  executes-touches s look (And a b c) h = acts-long s (And a b c) h
-  executes-touches s look (Xor a b c) h = acts-long s (Xor a b c) h
-  executes-touches s look (Shift a b c) h = acts-long s (Shift a b c) h
-  executes-touches s look (Load a b c) h = loads-long 1 s look a b c h
-  executes-touches s look (Store a b c) h = stores-touches 1 s a b c h
-  executes-touches s look (LoadWord a b c) h = loads-long 4 s look a b c h
-  executes-touches s look (StoreWord a b c) h = stores-touches 4 s a b c h
-  executes-touches s look (Jump a n) h = acts-long s (Jump a n) h
-  executes-touches s look Wait h = acts-long s Wait h
-  executes-touches s look (Listen a n) h = acts-long s (Listen a n) h
-  executes-touches s look Back h = acts-long s Back h
+  executes-touches s look count Halt h = acts-long s count Halt h
+  executes-touches s look count (Set a n) h = acts-long s count (Set a n) h
+  executes-touches s look count (Add a b c) h = acts-long s count (Add a b c) h
+  executes-touches s look count (Sub a b c) h = acts-long s count (Sub a b c) h
+  executes-touches s look count (And a b c) h = acts-long s count (And a b c) h
+  executes-touches s look count (Xor a b c) h = acts-long s count (Xor a b c) h
+  executes-touches s look count (Shift a b c) h = acts-long s count (Shift a b c) h
+  executes-touches s look count (Load a b c) h = loads-long 1 s look a b c h
+  executes-touches s look count (Store a b c) h = stores-touches 1 s a b c h
+  executes-touches s look count (LoadWord a b c) h = loads-long 4 s look a b c h
+  executes-touches s look count (StoreWord a b c) h = stores-touches 4 s a b c h
+  executes-touches s look count (Count a) h = acts-long s count (Count a) h
+  executes-touches s look count (Jump a n) h = acts-long s count (Jump a n) h
+  executes-touches s look count Wait h = acts-long s count Wait h
+  executes-touches s look count (Listen a n) h = acts-long s count (Listen a n) h
+  executes-touches s look count Back h = acts-long s count Back h
 
-  obeys-touches : (s : List ℕ) (look : ℕ → List ℕ) (d : Decoded) → Long s → Touches S (obeys S s look d)
+  obeys-touches : (s : List ℕ) (look : ℕ → List ℕ) (count : ℕ) (d : Decoded) → Long s → Touches S (obeys S s look count d)
   unfolding obeys
-  obeys-touches s look (Runs i) h = executes-touches s look i h
-  obeys-touches s look Bad h = length-faults s BadInstruction ∙ h
+  obeys-touches s look count (Runs i) h = executes-touches s look count i h
+  obeys-touches s look count Bad h = length-faults s BadInstruction ∙ h
 
   pub effect-touches : (codeSize : ℕ) (x : Sees) → Long (x .saved) → Touches S (effect S codeSize x)
   unfolding effect steps
@@ -125,5 +127,5 @@ module _ (S : Seat) where
       (cond-both (Touches S) (isReady (x .saved))
       (λ _. cond-both (Touches S) (ltb codeSize (counter (x .saved) + 4))
       (λ _. length-faults (x .saved) CounterOver ∙ h)
-      (obeys-touches (x .saved) (x .look) (fetched (S .opcodes) (x .code) (counter (x .saved))) h))
+      (obeys-touches (x .saved) (x .look) (x .count) (fetched (S .opcodes) (x .code) (counter (x .saved))) h))
       tt)

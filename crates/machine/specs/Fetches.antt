@@ -12,9 +12,12 @@ use Rattle.machine.specs.Local.{takesInterrupt, isReady}
 use Rattle.machine.specs.Machine.{State, current, select}
 
 module _ (v : View) where
-  -- The current partition's save bytes and code bytes.
+  -- A partition's save bytes; the current partition's, and its code bytes.
+  abbrev pub saveBytes : ℕ → State → List ℕ
+  saveBytes p x = part (x .memory) (v .base (v .save p)) (layout .size)
+
   abbrev pub savedOf : State → List ℕ
-  savedOf x = part (x .memory) (v .base (v .save (current v x))) (layout .size)
+  savedOf x = saveBytes (current v x) x
 
   abbrev pub codeOf : State → List ℕ
   codeOf x = select v (v .code (current v x)) x

@@ -9,7 +9,7 @@ use lib.ListN.{set}
 use lib.Dec.{eqb}
 use Rattle.machine.specs.declared.Instr.{Instr}
 use Rattle.machine.specs.declared.Instr.the-variants.{Halt, Set, Add, Sub, And, Xor, Shift, Load, Store, Jump}
-use Rattle.machine.specs.declared.Instr.the-variants.{Wait, Listen, Back, LoadWord, StoreWord}
+use Rattle.machine.specs.declared.Instr.the-variants.{Wait, Listen, Back, LoadWord, StoreWord, Count}
 use Rattle.machine.specs.declared.Fault.the-variants.{WrongHandler}
 use Rattle.bytes.specs.Numbers.{half, withHalf}
 use Rattle.machine.specs.Layout.{layout, ready, halted, waiting}
@@ -40,32 +40,34 @@ comesBack save =
     (set (withCounter save (half save (layout .return))) (layout .inHandler) 0)
     (faults save WrongHandler)
 
--- What an instruction does to the save bytes alone, by its kind.
-unfoldable pub actsOn : List ℕ → Instr → List ℕ
+-- What an instruction does to the save bytes alone, by its kind; one of them asks for the count.
+unfoldable pub actsOn : List ℕ → ℕ → Instr → List ℕ
 -- 0 halt: "state 1, counter stays"
-actsOn save Halt = withState save halted
+actsOn save count Halt = withState save halted
 -- 1 set: "ra = n"
-actsOn save (Set a n) = resulted save a n
+actsOn save count (Set a n) = resulted save a n
 -- 2 add, 3 sub: "ra = rb + rc for 2, rb − rc for 3, modulo 4,294,967,296"
-actsOn save (Add a b c) = resulted save a ((register save b + register save c) % 4294967296)
-actsOn save (Sub a b c) = resulted save a ((register save b + (4294967296 - register save c)) % 4294967296)
+actsOn save count (Add a b c) = resulted save a ((register save b + register save c) % 4294967296)
+actsOn save count (Sub a b c) = resulted save a ((register save b + (4294967296 - register save c)) % 4294967296)
 -- 4 and, 5 xor: "ra = rb and rc, rb xor rc, bit by bit"
-actsOn save (And a b c) = resulted save a (bitAnd (register save b) (register save c))
-actsOn save (Xor a b c) = resulted save a (bitXor (register save b) (register save c))
+actsOn save count (And a b c) = resulted save a (bitAnd (register save b) (register save c))
+actsOn save count (Xor a b c) = resulted save a (bitXor (register save b) (register save c))
 -- 6 shift: "ra = rb moved right by (rc modulo 32) bits, zeros in"
-actsOn save (Shift a b c) = resulted save a (register save b / 2 ^ (register save c % 32))
+actsOn save count (Shift a b c) = resulted save a (register save b / 2 ^ (register save c % 32))
 -- 7 load and 8 store, 13 load word and 14 store word see a segment: Tick.antt says what they do
-actsOn save (Load a b c) = save
-actsOn save (Store a b c) = save
-actsOn save (LoadWord a b c) = save
-actsOn save (StoreWord a b c) = save
+actsOn save count (Load a b c) = save
+actsOn save count (Store a b c) = save
+actsOn save count (LoadWord a b c) = save
+actsOn save count (StoreWord a b c) = save
 -- 9 jump, 10 wait: above
-actsOn save (Jump a n) = jumps save a n
-actsOn save Wait = waits save
+actsOn save count (Jump a n) = jumps save a n
+actsOn save count Wait = waits save
 -- 11 listen: "enabled = a, handler place = n"
-actsOn save (Listen a n) = advanced (withHalf (set save (layout .enabled) a) (layout .handler) n)
+actsOn save count (Listen a n) = advanced (withHalf (set save (layout .enabled) a) (layout .handler) n)
 -- 12 back: above
-actsOn save Back = comesBack save
+actsOn save count Back = comesBack save
+-- 02, S-8: "Opcode 15 sets ra to the count before its tick"
+actsOn save count (Count a) = resulted save a count
 
 -- "With state 0 or 3, in-handler 0, and a line that is pended and enabled, the tick takes an interrupt."
 unfoldable pub takesInterrupt : List ℕ → Bool

@@ -49,11 +49,15 @@ module _ (v : View) where
         writes = v .writes p;
       }
 
-  -- One tick of that machine: the current partition's effect on memory, and the place moves.
+  -- One tick of that machine: the current partition's effect on memory, at the count of the place that the tick starts
+  -- from, "the count before its tick", and the place moves.
   abbrev pub nextUpTo : ℕ → State → State
   nextUpTo last x =
       let p = current x in
-      record { memory = tickOf (seatUpTo last p) (v .code p) (v .save p) (x .memory); place = moved v (x .place) }
+      record {
+        memory = tickOf (seatUpTo last p) (v .code p) (v .save p) (x .place .count) (x .memory);
+        place = moved v (x .place);
+      }
 
   -- The same on this machine.
   abbrev pub seat : ℕ → Seat

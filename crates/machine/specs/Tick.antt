@@ -7,7 +7,7 @@ use lib.Dec.{leb, ltb}
 use lib.Seq.{sets}
 use Rattle.machine.specs.declared.Instr.{Instr}
 use Rattle.machine.specs.declared.Instr.the-variants.{Halt, Set, Add, Sub, And, Xor, Shift, Load, Store, Jump}
-use Rattle.machine.specs.declared.Instr.the-variants.{Wait, Listen, Back, LoadWord, StoreWord}
+use Rattle.machine.specs.declared.Instr.the-variants.{Wait, Listen, Back, LoadWord, StoreWord, Count}
 use Rattle.machine.specs.declared.Decoded.{Decoded}
 use Rattle.machine.specs.declared.Decoded.the-variants.{Runs, Bad}
 use Rattle.machine.specs.declared.Fault.the-variants.{CounterOver, BadInstruction, NoRight, OffsetOver}
@@ -28,11 +28,13 @@ pub record Seat : Type 0 where
   pub reads : ℕ → Bool
   pub writes : ℕ → Bool
 
--- What the current partition sees: its save bytes, its code bytes, and by segment what a load sees.
+-- What the current partition sees: its save bytes, its code bytes, by segment what a load sees, and the count of ticks
+-- since Start, which alone lies in no segment.
 pub record Sees : Type 0 where
   pub saved : List ℕ
   pub code : List ℕ
   pub look : ℕ → List ℕ
+  pub count : ℕ
 
 -- What a tick does: nothing; new save bytes; new save bytes, and bytes from an offset of a segment on.
 pub data Effect : Type 0 where
@@ -64,9 +66,14 @@ module _ (S : Seat) where
   unfoldable pub looks : List ℕ → ℕ → List ℕ
   looks memory c = cond (mayLoad c) (segmentOf c memory) []
 
-  abbrev pub sees : ℕ → ℕ → List ℕ → Sees
-  sees code save memory =
-      record { saved = part memory (S .base save) (layout .size); code = segmentOf code memory; look = looks memory }
+  abbrev pub sees : ℕ → ℕ → ℕ → List ℕ → Sees
+  sees code save count memory =
+      record {
+        saved = part memory (S .base save) (layout .size);
+        code = segmentOf code memory;
+        look = looks memory;
+        count = count;
+      }
 
   -- 7 load, of width 1: "ra = byte at offset rb of segment c"; 02, S-2: 13, of width 4, "loads [..] four bytes,
   -- little-endian, at offsets rb to rb + 3 of segment c"; faults 3, then 4
@@ -89,34 +96,35 @@ module _ (S : Seat) where
       (saves (faults save NoRight))
 
   -- One instruction: its own effect for a load and a store, else new save bytes.
-  unfoldable pub executes : List ℕ → (ℕ → List ℕ) → Instr → Effect
-  executes save look Halt = saves (actsOn save Halt)
-  executes save look (Set a n) = saves (actsOn save (Set a n))
-  executes save look (Add a b c) = saves (actsOn save (Add a b c))
-  executes save look (Sub a b c) = saves (actsOn save (Sub a b c))
-  executes save look (And a b c) = saves (actsOn save (And a b c))
-  executes save look (Xor a b c) = saves (actsOn save (Xor a b c))
-  executes save look (Shift a b c) = saves (actsOn save (Shift a b c))
-  executes save look (Load a b c) = saves (loads 1 save look a b c)
-  executes save look (Store a b c) = storesBytes 1 save a b c
-  executes save look (Jump a n) = saves (actsOn save (Jump a n))
-  executes save look Wait = saves (actsOn save Wait)
-  executes save look (Listen a n) = saves (actsOn save (Listen a n))
-  executes save look Back = saves (actsOn save Back)
-  executes save look (LoadWord a b c) = saves (loads 4 save look a b c)
-  executes save look (StoreWord a b c) = storesBytes 4 save a b c
+  unfoldable pub executes : List ℕ → (ℕ → List ℕ) → ℕ → Instr → Effect
+  executes save look count Halt = saves (actsOn save count Halt)
+  executes save look count (Set a n) = saves (actsOn save count (Set a n))
+  executes save look count (Add a b c) = saves (actsOn save count (Add a b c))
+  executes save look count (Sub a b c) = saves (actsOn save count (Sub a b c))
+  executes save look count (And a b c) = saves (actsOn save count (And a b c))
+  executes save look count (Xor a b c) = saves (actsOn save count (Xor a b c))
+  executes save look count (Shift a b c) = saves (actsOn save count (Shift a b c))
+  executes save look count (Load a b c) = saves (loads 1 save look a b c)
+  executes save look count (Store a b c) = storesBytes 1 save a b c
+  executes save look count (Jump a n) = saves (actsOn save count (Jump a n))
+  executes save look count Wait = saves (actsOn save count Wait)
+  executes save look count (Listen a n) = saves (actsOn save count (Listen a n))
+  executes save look count Back = saves (actsOn save count Back)
+  executes save look count (LoadWord a b c) = saves (loads 4 save look a b c)
+  executes save look count (StoreWord a b c) = storesBytes 4 save a b c
+  executes save look count (Count a) = saves (actsOn save count (Count a))
 
   -- "2 bad opcode or register"
-  unfoldable pub obeys : List ℕ → (ℕ → List ℕ) → Decoded → Effect
-  obeys save look (Runs i) = executes save look i
-  obeys save look Bad = saves (faults save BadInstruction)
+  unfoldable pub obeys : List ℕ → (ℕ → List ℕ) → ℕ → Decoded → Effect
+  obeys save look count (Runs i) = executes save look count i
+  obeys save look count Bad = saves (faults save BadInstruction)
 
   -- The instruction at the counter. "1 counter + 4 is over the code length"
   unfoldable pub steps : ℕ → Sees → Effect
   steps codeSize x =
       cond (ltb codeSize (counter (x .saved) + 4))
       (saves (faults (x .saved) CounterOver))
-      (obeys (x .saved) (x .look) (fetched (S .opcodes) (x .code) (counter (x .saved))))
+      (obeys (x .saved) (x .look) (x .count) (fetched (S .opcodes) (x .code) (counter (x .saved))))
 
   -- "the tick takes an interrupt .. Else, with state 0, one instruction runs. Else memory is unchanged."
   unfoldable pub effect : ℕ → Sees → Effect
@@ -131,6 +139,6 @@ module _ (S : Seat) where
   applied from (stores bytes s at written) memory =
       sets (withPart memory from (layout .size) bytes) (S .base s + at) written
 
-  -- Memory after a tick of the partition with this code and this save segment.
-  unfoldable pub tickOf : ℕ → ℕ → List ℕ → List ℕ
-  tickOf code save memory = applied (S .base save) (effect (S .size code) (sees code save memory)) memory
+  -- Memory after a tick of the partition with this code and this save segment, at this count.
+  unfoldable pub tickOf : ℕ → ℕ → ℕ → List ℕ → List ℕ
+  tickOf code save count memory = applied (S .base save) (effect (S .size code) (sees code save count memory)) memory

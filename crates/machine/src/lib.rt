@@ -24,6 +24,7 @@ pub enum Instr {
     Back,
     LoadWord(u32, u32, u32),
     StoreWord(u32, u32, u32),
+    Count(u32),
 }
 
 // What four bytes of code are: an instruction, or none.
@@ -41,9 +42,11 @@ pub enum Fault {
     WrongHandler,
 }
 
-// Where the schedule stands: a slot, and the ticks of it that are used.
+// Where the schedule stands: a slot, the ticks of it that are used, and the count of the ticks since Start, which comes
+// round to 0.
 #[repr(C)]
 pub struct Place {
     pub slot: u32,
     pub used: u32,
+    pub count: u32,
 }

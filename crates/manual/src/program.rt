@@ -57,7 +57,12 @@ fn holds(memory: &mut [u8], line: &[u8], put: bool) -> bool {
     (0 < n) & same(part(memory, at, at + n), &space[..n])
 }
 
-// A line that checks, with its numbers where it has just one or just two.
+// Whether the third number of a line is one: the highest count is the number that stands for none.
+fn has_count(line: &[u8]) -> bool {
+    (number_in(line, 3) < NONE) | same(word(line, 3), b"4294967295")
+}
+
+// A line that checks, with its numbers where it has just one or just three.
 fn check(base: &[u8], memory: &mut [u8], line: &[u8], stand: Stand) -> Stand {
     let first = word(line, 0);
     let x = number_in(line, 1);
@@ -70,8 +75,9 @@ fn check(base: &[u8], memory: &mut [u8], line: &[u8], stand: Stand) -> Stand {
         return checked(stand, holds(memory, line, false));
     }
     if same(first, b"place") {
-        let whole = nth(line, 3, b' ') == line.len();
-        return checked(stand, (x == place.slot) & (y == place.used) & whole);
+        let count = has_count(line) & (number_in(line, 3) == place.count);
+        let whole = nth(line, 4, b' ') == line.len();
+        return checked(stand, (x == place.slot) & (y == place.used) & count & whole);
     }
     let whole = nth(line, 2, b' ') == line.len();
     checked(stand, same(first, b"number") & (x == stand.number) & whole)
@@ -83,6 +89,7 @@ fn step(base: &[u8], policy: Policy, memory: &mut [u8], line: &[u8], stand: Stan
     let y = number_in(line, 2);
     let one = (x < NONE) & (nth(line, 2, b' ') == line.len());
     let two = (x < NONE) & (y < NONE) & (nth(line, 3, b' ') == line.len());
+    let three = (x < NONE) & (y < NONE) & has_count(line) & (nth(line, 4, b' ') == line.len());
     let mut next = stand;
     let place = stand.place;
     if line.len() == 0 {
@@ -98,8 +105,12 @@ fn step(base: &[u8], policy: Policy, memory: &mut [u8], line: &[u8], stand: Stan
         next.number = kernel::outcome_number(kernel::pend(policy, memory, x, y));
         return next;
     }
-    if same(first, b"from") & two {
-        let from = Place { slot: x, used: y };
+    if same(first, b"from") & three {
+        let from = Place {
+            slot: x,
+            used: y,
+            count: number_in(line, 3),
+        };
         next.place = from;
         return next;
     }
@@ -123,7 +134,11 @@ pub(crate) fn try_lines(base: &[u8], block: &[u8], fence: u32) {
     let policy = reading.policy;
     let mut memory = [0u8; MEMORY];
     let mut stand = Stand {
-        place: Place { slot: 0, used: 0 },
+        place: Place {
+            slot: 0,
+            used: 0,
+            count: 0,
+        },
         number: 0,
         checks: 0,
         right: true,

@@ -57,6 +57,7 @@ fn answered(placed: Placed) -> Place {
     show_number(b"\t", kernel::outcome_number(outcome));
     show_number(b"\t", place.slot);
     show_number(b" ", place.used);
+    show_number(b" ", place.count);
     show(b"\n");
     place
 }
@@ -75,7 +76,11 @@ fn act(memory: &mut [u8], policy: Policy, place: Place, line: &[u8], next: &[u8]
     match byte_at(line, 0) {
         b's' => answered(kernel::start(policy, memory)),
         b'r' => answered(kernel::run(policy, memory, place, x)),
-        b'a' => Place { slot: x, used: y },
+        b'a' => Place {
+            slot: x,
+            used: y,
+            count: number_in(line, 3),
+        },
         b'p' => {
             show_answer(kernel::outcome_number(kernel::pend(policy, memory, x, y)));
             place
@@ -126,7 +131,11 @@ fn step(
 // The steps up to the one that ends the scenario, and where the next one begins.
 fn steps(file: &[u8], from: usize, name: &[u8], memory: &mut [u8], read: Policy) -> usize {
     let mut policy = read;
-    let mut place = Place { slot: 0, used: 0 };
+    let mut place = Place {
+        slot: 0,
+        used: 0,
+        count: 0,
+    };
     let mut at = from;
     let mut left: u32 = 1000;
     while 0 < left {

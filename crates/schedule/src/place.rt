@@ -29,17 +29,24 @@ pub fn move_by(place: Place, n: u32, ticks: u16, slots: u8) -> Place
     requires { ⌜ (place .slot < slots) × (place .used + n ≤ ticks) × (0 < n) ⌝ }
     ensures { λ r. ⌜ ((v : View) → v .ticks (place .slot) ≡ ticks → v .slots ≡ slots → r ≡ movedBy v n place) ⌝ }
 {
+    let count = std::num::wrapping_add_u32(place.count, n);
     if place.used + n < ticks as u32 {
         return Place {
             slot: place.slot,
             used: place.used + n,
+            count,
         };
     }
     if place.slot + 1 < slots as u32 {
         return Place {
             slot: place.slot + 1,
             used: 0,
+            count,
         };
     }
-    Place { slot: 0, used: 0 }
+    Place {
+        slot: 0,
+        used: 0,
+        count,
+    }
 }

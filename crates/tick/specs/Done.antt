@@ -13,8 +13,8 @@ module _ (S : Seat) where
   abbrev pub stored : ℕ → ℕ → List ℕ → ℕ → ℕ → ℕ → List ℕ
   stored width from memory a b c = applied S from (storesBytes S width (savedAt memory from) a b c) memory
 
-  abbrev pub obeyed : ℕ → List ℕ → Decoded → List ℕ
-  obeyed from memory d = applied S from (obeys S (savedAt memory from) (looks S memory) d) memory
+  abbrev pub obeyed : ℕ → List ℕ → ℕ → Decoded → List ℕ
+  obeyed from memory count d = applied S from (obeys S (savedAt memory from) (looks S memory) count d) memory
 
-  abbrev pub stepped : ℕ → ℕ → List ℕ → List ℕ
-  stepped code save memory = applied S (S .base save) (steps S (S .size code) (sees S code save memory)) memory
+  abbrev pub stepped : ℕ → ℕ → ℕ → List ℕ → List ℕ
+  stepped code save count memory = applied S (S .base save) (steps S (S .size code) (sees S code save count memory)) memory

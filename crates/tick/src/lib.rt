@@ -40,6 +40,7 @@ fn obey<'a>(
     writes: u64,
     segments: u8,
     from: usize,
+    count: u32,
     d: Decoded,
 )
     requires { ⌜ from + saveSize ≤ length (now memory) ⌝ }
@@ -48,7 +49,7 @@ fn obey<'a>(
         ⌜
         now (memory .exit)
         ≡ obeyed (seatOf (now (base .entry)) (now (size .entry)) reads writes segments)
-        from (now (memory .entry)) d
+        from (now (memory .entry)) count d
         ⌝ }
 {
     let Decoded::Runs(i) = d else {
@@ -72,7 +73,7 @@ fn obey<'a>(
         ),
         _ => {
             let to = from + SAVE_SIZE;
-            act(&mut memory[from..to], i);
+            act(&mut memory[from..to], count, i);
         }
     }
 }
@@ -86,13 +87,14 @@ fn step<'a>(
     segments: u8,
     code: u8,
     save: u8,
+    count: u32,
 )
     requires { ⌜ Seated (now base) (now size) segments code save (length (now memory)) ⌝ }
     ensures { λ _.
         ⌜
         now (memory .exit)
         ≡ stepped (seatOf (now (base .entry)) (now (size .entry)) reads writes segments)
-        code save (now (memory .entry))
+        code save count (now (memory .entry))
         ⌝ }
 {
     let from = entry(base, save as u32);
@@ -103,12 +105,12 @@ fn step<'a>(
         fault(memory, from, Fault::CounterOver);
     } else {
         let d = fetch(memory, start, room, pc);
-        obey(memory, base, size, reads, writes, segments, from, d);
+        obey(memory, base, size, reads, writes, segments, from, count, d);
     }
 }
 
-// A tick of the partition with this code and this save segment, and the masks of the segments on which a line gives it
-// r and w; whether it had something to do.
+// A tick, at this count, of the partition with this code and this save segment, and the masks of the segments on which a
+// line gives it r and w; whether it had something to do.
 pub fn tick<'a>(
     memory: &mut [u8],
     base: &'a [u16],
@@ -118,12 +120,13 @@ pub fn tick<'a>(
     segments: u8,
     code: u8,
     save: u8,
+    count: u32,
 ) -> bool
     requires { ⌜ Seated (now base) (now size) segments code save (length (now memory)) ⌝ }
     ensures { λ r.
         ⌜
         (now (memory .exit)
-        ≡ tickOf (seatOf (now (base .entry)) (now (size .entry)) reads writes segments) code save
+        ≡ tickOf (seatOf (now (base .entry)) (now (size .entry)) reads writes segments) code save count
         (now (memory .entry)))
         × (r ≡ isAble (savedAt (now (memory .entry)) (getD (now (base .entry)) save 0)))
         ⌝ }
@@ -134,7 +137,17 @@ pub fn tick<'a>(
         return true;
     }
     if is_ready(memory, from) {
-        step(memory, base, size, reads, writes, segments, code, save);
+        step(
+            memory,
+            base,
+            size,
+            reads,
+            writes,
+            segments,
+            code,
+            save,
+            count,
+        );
         return true;
     }
     false

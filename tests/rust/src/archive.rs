@@ -2,10 +2,42 @@
 
 use crate::boundary::{Answer, Kernel, Place, Policy, ReachResult, ReadResult, RunResult, SheetResult};
 
+/// The place and the result before version 3.0, without a count.
+#[cfg(all(feature = "before", not(feature = "before-counts")))]
+mod uncounted {
+    use crate::boundary;
+
+    #[repr(C)]
+    #[derive(Clone, Copy)]
+    pub struct Place {
+        slot: u32,
+        used: u32,
+    }
+
+    #[repr(C)]
+    #[derive(Clone, Copy)]
+    pub struct RunResult {
+        number: u32,
+        place: Place,
+    }
+
+    impl From<boundary::Place> for Place {
+        fn from(place: boundary::Place) -> Place {
+            Place { slot: place.slot, used: place.used }
+        }
+    }
+
+    impl From<RunResult> for boundary::RunResult {
+        fn from(result: RunResult) -> boundary::RunResult {
+            boundary::RunResult { number: result.number, place: boundary::Place::at(result.place.slot, result.place.used) }
+        }
+    }
+}
+
 /// A kernel behind the functions of a static library, which have this prefix. Where a condition does not hold, the library is an earlier one without
 /// sk_reach and sk_can_reach, or without sk_sheet: they answer a number that no kernel has.
 macro_rules! linked {
-    ($kernel:ident, $name:literal, $library:literal, $prefix:literal, $reaches:meta, $sheets:meta) => {
+    ($kernel:ident, $name:literal, $library:literal, $prefix:literal, $place:ty, $result:ty, $reaches:meta, $sheets:meta) => {
         pub struct $kernel;
 
         const _: () = {
@@ -17,11 +49,11 @@ macro_rules! linked {
                 #[link_name = concat!($prefix, "sk_sound")]
                 fn sk_sound(policy: Policy) -> u32;
                 #[link_name = concat!($prefix, "sk_start")]
-                fn sk_start(policy: Policy, memory: *mut u8, memory_len: usize) -> RunResult;
+                fn sk_start(policy: Policy, memory: *mut u8, memory_len: usize) -> $result;
                 #[link_name = concat!($prefix, "sk_pend")]
                 fn sk_pend(policy: Policy, memory: *mut u8, memory_len: usize, partition: u32, line: u32) -> u32;
                 #[link_name = concat!($prefix, "sk_run")]
-                fn sk_run(policy: Policy, memory: *mut u8, memory_len: usize, place: Place, ticks: u32) -> RunResult;
+                fn sk_run(policy: Policy, memory: *mut u8, memory_len: usize, place: $place, ticks: u32) -> $result;
                 #[cfg($reaches)]
                 #[link_name = concat!($prefix, "sk_reach")]
                 fn sk_reach(policy: Policy) -> ReachResult;
@@ -48,13 +80,13 @@ macro_rules! linked {
                     unsafe { sk_sound(*policy) }
                 }
                 fn start(&self, policy: &Policy, memory: &mut [u8]) -> RunResult {
-                    unsafe { sk_start(*policy, memory.as_mut_ptr(), memory.len()) }
+                    unsafe { sk_start(*policy, memory.as_mut_ptr(), memory.len()) }.into()
                 }
                 fn pend(&self, policy: &Policy, memory: &mut [u8], partition: u32, line: u32) -> u32 {
                     unsafe { sk_pend(*policy, memory.as_mut_ptr(), memory.len(), partition, line) }
                 }
                 fn run(&self, policy: &Policy, memory: &mut [u8], place: Place, ticks: u32) -> RunResult {
-                    unsafe { sk_run(*policy, memory.as_mut_ptr(), memory.len(), place, ticks) }
+                    unsafe { sk_run(*policy, memory.as_mut_ptr(), memory.len(), place.into(), ticks) }.into()
                 }
                 #[cfg($reaches)]
                 fn reach(&self, policy: &Policy) -> ReachResult {
@@ -85,7 +117,19 @@ macro_rules! linked {
     };
 }
 
-linked!(Archive, "archive", "boundary", "", all(), all());
+linked!(Archive, "archive", "boundary", "", Place, RunResult, all(), all());
 
-#[cfg(feature = "before")]
-linked!(Before, "before", "before", "before_", feature = "before-reaches", feature = "before-sheets");
+#[cfg(feature = "before-counts")]
+linked!(Before, "before", "before", "before_", Place, RunResult, all(), all());
+
+#[cfg(all(feature = "before", not(feature = "before-counts")))]
+linked!(
+    Before,
+    "before",
+    "before",
+    "before_",
+    uncounted::Place,
+    uncounted::RunResult,
+    feature = "before-reaches",
+    feature = "before-sheets"
+);

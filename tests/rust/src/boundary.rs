@@ -93,16 +93,23 @@ fn set(mask: &mut u32, s: usize, bit: bool) {
     *mask = *mask & !(1 << s) | u32::from(bit) << s;
 }
 
-/// A place in the schedule.
+/// A place in the schedule. S-8: "a count of ticks since Start, modulo 4,294,967,296".
 #[repr(C)]
 #[derive(Clone, Copy, PartialEq, Eq, Debug)]
 pub struct Place {
     pub slot: u32,
     pub used: u32,
+    pub count: u32,
 }
 
 impl Place {
-    pub const FIRST: Place = Place { slot: 0, used: 0 };
+    /// What Start returns.
+    pub const FIRST: Place = Place { slot: 0, used: 0, count: 0 };
+
+    /// A place that no tick has counted towards.
+    pub const fn at(slot: u32, used: u32) -> Place {
+        Place { slot, used, count: 0 }
+    }
 }
 
 #[repr(C)]

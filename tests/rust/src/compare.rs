@@ -166,7 +166,8 @@ impl Reached {
             let bytes = &mut memory[..step.length];
             let (name, number) = match step.call {
                 Call::Run { ticks, from } => {
-                    let result = run_watched(policy, bytes, from.unwrap_or(place), ticks, &mut |event| self.event(event));
+                    let from = from.unwrap_or(place);
+                    let result = run_watched(policy, bytes, from, ticks, &mut |event| self.event(event, from));
                     place = result.place;
                     if result.number == 0 && (ticks == 0 || ticks == 10_000) {
                         self.count(&format!("Run of {ticks} ticks"));
@@ -175,6 +176,9 @@ impl Reached {
                 }
                 call => {
                     let answer = perform(&Reference, policy, bytes, place, call);
+                    if call == Call::Start && place.count > 0 {
+                        self.count(if answer.number == 0 { "Start at a count" } else { "Start refused at a count" });
+                    }
                     place = answer.place;
                     (if call == Call::Start { "Start" } else { "Pend" }, answer.number)
                 }
@@ -187,13 +191,24 @@ impl Reached {
         }
     }
 
-    fn event(&mut self, event: Event) {
+    /// An event of a Run from a place.
+    fn event(&mut self, event: Event, from: Place) {
         match event {
             Event::Interrupt { line, waiting } => {
                 self.count(LINES[line as usize]);
                 self.count(if waiting { "interrupt while waiting" } else { "interrupt while ready" });
             }
             Event::Ran { opcode } => self.count(NAMES[opcode as usize]),
+            Event::Counted { count, in_handler } => {
+                self.count("count");
+                let cases = [
+                    (count == 0, "count at 0"),
+                    (count == u32::MAX, "count at 4,294,967,295"),
+                    (count < from.count, "count that came round within a Run"),
+                    (in_handler, "count in a handler"),
+                ];
+                cases.iter().filter(|(held, _)| *held).for_each(|(_, case)| self.count(case));
+            }
             Event::Fault { why, .. } => self.count(&format!("fault {why}")),
             Event::Idle { why } => self.count(why),
         }
@@ -207,7 +222,8 @@ impl Reached {
 
 const LINES: [&str; 8] =
     ["line 0 taken", "line 1 taken", "line 2 taken", "line 3 taken", "line 4 taken", "line 5 taken", "line 6 taken", "line 7 taken"];
-const NAMES: [&str; OPCODES as usize] =
+/// Opcode 15 has an event of its own.
+const NAMES: [&str; OPCODES as usize - 1] =
     ["halt", "set", "add", "sub", "and", "xor", "shift", "load", "store", "jump", "wait", "listen", "back", "load word", "store word"];
 
 /// Every reason of a refused text, and every outcome of a record.
@@ -291,7 +307,7 @@ pub const TEXT_CASES: [&str; 76] = [
 ];
 
 /// Every outcome of a call and of a tick.
-pub const LIST_CASES: [&str; 72] = [
+pub const LIST_CASES: [&str; 79] = [
     "Start 0",
     "Start 9",
     "Start 10",
@@ -336,6 +352,13 @@ pub const LIST_CASES: [&str; 72] = [
     "back",
     "load word",
     "store word",
+    "count",
+    "count at 0",
+    "count at 4,294,967,295",
+    "count in a handler",
+    "count that came round within a Run",
+    "Start at a count",
+    "Start refused at a count",
     "fault 1 counter past the code",
     "fault 1 counter near the code's end",
     "fault 2 bad opcode",

@@ -27,9 +27,13 @@ pub enum Leak {
     FaultHaltsTheNext,
     /// A halted partition's slot ends at once.
     HaltEndsTheSlot,
+    /// Only a tick that does something raises the count: another partition's idleness then shows in it.
+    CountOfWork,
+    /// The same, and the count that Run returns is right: it shows in registers alone.
+    CountOfWorkWithin,
 }
 
-pub const LEAKS: [Leak; 12] = [
+pub const LEAKS: [Leak; 14] = [
     Leak::IdleTicksGivenAway,
     Leak::StoreReadsBack,
     Leak::WordStoreReadsBack,
@@ -42,6 +46,8 @@ pub const LEAKS: [Leak; 12] = [
     Leak::RegisterKept,
     Leak::FaultHaltsTheNext,
     Leak::HaltEndsTheSlot,
+    Leak::CountOfWork,
+    Leak::CountOfWorkWithin,
 ];
 
 pub struct Leaky(pub Leak);
@@ -94,8 +100,8 @@ impl Leaky {
         let next = next_place(policy, place);
         let base = save_base(policy, current);
         let before = memory.to_vec();
-        let event = tick(&self.wide(policy, &before, current), memory, current);
-        let skip = Place { slot: place.slot, used: u32::from(policy.slot_ticks[place.slot as usize]) - 1 };
+        let event = tick(&self.wide(policy, &before, current), memory, current, place.count);
+        let skip = Place { used: u32::from(policy.slot_ticks[place.slot as usize]) - 1, ..place };
         let heir = policy.slot_partition[next.slot as usize] as usize;
         match (self.0, event) {
             (Leak::IdleTicksGivenAway, Event::Idle { .. }) if memory[base + STATE] == 3 => return next_place(policy, skip),
@@ -108,6 +114,7 @@ impl Leaky {
                 set_register(memory, policy, heir, 0, kept);
             }
             (Leak::FaultHaltsTheNext, Event::Fault { .. }) => memory[save_base(policy, heir) + STATE] = 1,
+            (Leak::CountOfWork | Leak::CountOfWorkWithin, Event::Idle { .. }) => return Place { count: place.count, ..next },
             _ => (),
         }
         next
@@ -180,9 +187,13 @@ impl Kernel for Leaky {
         if number != 0 {
             return RunResult { number, place };
         }
+        let right = place.count.wrapping_add(ticks);
         let mut place = place;
         for _ in 0..ticks {
             place = self.leaky_tick(policy, memory, place);
+        }
+        if self.0 == Leak::CountOfWorkWithin {
+            place.count = right;
         }
         RunResult { number: 0, place }
     }

@@ -2,7 +2,7 @@
 
 use crate::boundary::{Kernel, Place, Policy};
 use crate::compare::perform;
-use crate::generate::lists::{place, Call};
+use crate::generate::lists::{count, place, Call};
 use crate::generate::memories::memory;
 use crate::generate::policies::{policy, Shape};
 use crate::random::Random;
@@ -188,12 +188,23 @@ pub fn tick_pair(random: &mut Random) -> Pair {
     }
     let memories = two_memories(random, &policy, &same);
     let slots: Vec<usize> = (0..policy.slots as usize).filter(|&slot| policy.slot_partition[slot] as usize == current).collect();
+    // S-8: "The one-tick separation rule now also takes the two counts as equal".
+    let count = count(random);
     let places = [(); 2].map(|()| {
         let slot = random.pick(&slots);
-        Place { slot: slot as u32, used: random.below(policy.slot_ticks[slot] as usize) as u32 }
+        Place { slot: slot as u32, used: random.below(policy.slot_ticks[slot] as usize) as u32, count }
     });
     let tick = vec![Call::Run { ticks: 1, from: None }];
     Pair { policy, target, memories, places, lists: [tick.clone(), tick], place_too: false }
+}
+
+/// The same with counts that differ: of such a pair separation says nothing, and a search must find one that leaks.
+pub fn tick_pair_by_count(random: &mut Random) -> Pair {
+    let mut pair = tick_pair(random);
+    while pair.places[0].count == pair.places[1].count {
+        pair.places[1].count = count(random);
+    }
+    pair
 }
 
 /// A leaking pair, with those calls dropped that the leak and the claim don't need.
@@ -220,7 +231,7 @@ pub fn explain(kernel: &dyn Kernel, pair: &Pair) -> String {
     let mut shown = format!("{leak}\npolicy, {}target: segment {}\n", show::policy(&pair.policy), pair.target);
     for side in 0..2 {
         let place = pair.places[side];
-        shown += &format!("memory {}:\n{}place: slot {} used {}\ncalls:\n", side + 1, show::memory(&pair.memories[side]), place.slot, place.used);
+        shown += &format!("memory {}:\n{}place: {}\ncalls:\n", side + 1, show::memory(&pair.memories[side]), show::place(place));
         for call in &pair.lists[side] {
             shown += &format!("  {}\n", show::call(call));
         }

@@ -1,6 +1,6 @@
 //! Writes texts, memories and lists so that they can be typed in again.
 
-use crate::boundary::{Policy, MEMORY};
+use crate::boundary::{Place, Policy, MEMORY};
 use crate::generate::lists::{Call, List};
 use crate::reference::{print, sound};
 
@@ -45,8 +45,12 @@ pub fn call(call: &Call) -> String {
         Call::Start => "Start".to_string(),
         Call::Pend { partition, line } => format!("Pend partition {partition} line {line}"),
         Call::Run { ticks, from: None } => format!("Run {ticks} ticks"),
-        Call::Run { ticks, from: Some(place) } => format!("Run {ticks} ticks from slot {} used {}", place.slot, place.used),
+        Call::Run { ticks, from: Some(from) } => format!("Run {ticks} ticks from {}", place(*from)),
     }
+}
+
+pub fn place(place: Place) -> String {
+    format!("slot {} used {} count {}", place.slot, place.used, place.count)
 }
 
 pub fn list(list: &List) -> String {
@@ -54,7 +58,7 @@ pub fn list(list: &List) -> String {
     if list.steps.iter().any(|step| step.second) {
         shown += &format!("second record, {}", policy(&list.policies[1]));
     }
-    shown += &format!("memory:\n{}place: slot {} used {}\ncalls:\n", memory(&list.memory), list.place.slot, list.place.used);
+    shown += &format!("memory:\n{}place: {}\ncalls:\n", memory(&list.memory), place(list.place));
     for (at, step) in list.steps.iter().enumerate() {
         shown += &format!("{}. {}", at + 1, call(&step.call));
         if step.length != MEMORY {

@@ -93,12 +93,13 @@ pub fn run(policy: &Policy, memory: &mut [u8], place: Place, ticks: u32) -> RunR
     if ticks > 10_000 {
         return RunResult { number: 14, place };
     }
-    let (mut slot, mut used, mut left) = (place.slot as usize, place.used, ticks);
+    let (mut slot, mut used, mut count, mut left) = (place.slot as usize, place.used, place.count, ticks);
     while left > 0 {
         let whole = u32::from(policy.slot_ticks[slot]);
         let now = left.min(whole - used);
         let view = View::new(policy, policy.slot_partition[slot] as usize);
-        view.ticks(memory, now);
+        view.ticks(memory, count, now);
+        count = count.wrapping_add(now);
         left -= now;
         used += now;
         if used == whole {
@@ -106,7 +107,7 @@ pub fn run(policy: &Policy, memory: &mut [u8], place: Place, ticks: u32) -> RunR
             slot = if slot + 1 < policy.slots as usize { slot + 1 } else { 0 };
         }
     }
-    RunResult { number: 0, place: Place { slot: slot as u32, used } }
+    RunResult { number: 0, place: Place { slot: slot as u32, used, count } }
 }
 
 /// What a tick of one partition needs of the policy.
@@ -137,11 +138,11 @@ impl<'p> View<'p> {
         (&mut memory[self.save..self.save + 44]).try_into().unwrap()
     }
 
-    /// Ticks of one slot. The counter is kept beside its bytes, which follow it at each tick.
+    /// Ticks of one slot, the first at this count. The counter is kept beside its bytes, which follow it at each tick.
     #[inline(always)]
-    fn ticks(&self, memory: &mut Memory, ticks: u32) {
+    fn ticks(&self, memory: &mut Memory, count: u32, ticks: u32) {
         let mut counter = two(self.save(memory), 32);
-        for _ in 0..ticks {
+        for i in 0..ticks {
             let save = self.save(memory);
             let state = save[34];
             let in_handler = save[42] != 0;
@@ -156,7 +157,7 @@ impl<'p> View<'p> {
                 save[42] = 1;
                 save[34] = 0;
             } else if state == 0 {
-                match self.step(memory, counter, in_handler) {
+                match self.step(memory, counter, in_handler, count.wrapping_add(i)) {
                     Ok(next) => {
                         counter = next;
                         let save = self.save(memory);
@@ -178,7 +179,7 @@ impl<'p> View<'p> {
 
     /// One instruction, and the counter after it.
     #[inline(always)]
-    fn step(&self, memory: &mut Memory, counter: u16, in_handler: bool) -> Result<u16, u8> {
+    fn step(&self, memory: &mut Memory, counter: u16, in_handler: bool, count: u32) -> Result<u16, u8> {
         if counter as usize + 4 > self.code_size {
             return Err(1);
         }
@@ -224,6 +225,7 @@ impl<'p> View<'p> {
             }
             13 if (a | b) < 8 => self.load::<4>(memory, a, b, c)?,
             14 if (a | b) < 8 => self.store::<4>(memory, a, b, c)?,
+            15 if a < 8 => set_register(save, a, count),
             _ => return Err(2),
         }
         Ok(next)

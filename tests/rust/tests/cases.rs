@@ -28,7 +28,8 @@ fn after(kernel: &dyn Kernel, put: &[(usize, &[u8])], ticks: u32) -> (Vec<u8>, R
 fn types_have_the_layout_of_c() {
     assert_eq!(std::mem::size_of::<Policy>(), RECORD);
     assert_eq!(std::mem::size_of::<ReadResult>(), 444);
-    assert_eq!(std::mem::size_of::<RunResult>(), 12);
+    assert_eq!((std::mem::size_of::<Place>(), offset_of!(Place, used), offset_of!(Place, count)), (12, 4, 8));
+    assert_eq!((std::mem::size_of::<RunResult>(), offset_of!(RunResult, place)), (16, 4));
     assert_eq!((std::mem::size_of::<ReachResult>(), offset_of!(ReachResult, sources)), (132, 4));
     assert_eq!((std::mem::size_of::<Answer>(), offset_of!(Answer, yes)), (8, 4));
     assert_eq!((std::mem::size_of::<SheetResult>(), offset_of!(SheetResult, ticks), offset_of!(SheetResult, silence)), (68, 4, 36));
@@ -85,7 +86,7 @@ fn k5_to_k7() {
         let program = [1, 0, 0x41, 0, 8, 0, 1, 4, 0, 0, 0, 0];
         let (memory, result) = after(kernel, &[(0, &program)], 3);
         assert_eq!((memory[256], memory[64 + 32], memory[64 + 33], memory[64 + 34]), (65, 8, 0, 1));
-        assert_eq!(result.place, Place { slot: 1, used: 0 });
+        assert_eq!(result.place, Place { slot: 1, used: 0, count: 3 });
         let (memory, _) = after(kernel, &[(0, &[7, 0, 1, 4])], 1);
         assert_eq!((memory[64 + 34], memory[64 + 35]), (2, 3));
         let (memory, _) = after(kernel, &[(0, &[1, 1, 15, 0, 8, 0, 1, 4]), (64, &[9])], 2);
@@ -117,17 +118,17 @@ fn limits_of_the_calls() {
         for length in [0, MEMORY - 1, MEMORY + 1] {
             assert_eq!(kernel.start(&policy, &mut memory[..length]), RunResult { number: 9, place: Place::FIRST });
             assert_eq!(kernel.pend(&policy, &mut memory[..length], 0, 0), 9);
-            let place = Place { slot: 1, used: 1 };
+            let place = Place::at(1, 1);
             assert_eq!(kernel.run(&policy, &mut memory[..length], place, 1), RunResult { number: 9, place });
         }
         memory.truncate(MEMORY);
         let mut bad = policy;
         bad.set_flow(1, 1, true);
-        let far = Place { slot: 2, used: 0 };
+        let far = Place::at(2, 0);
         assert_eq!(kernel.run(&bad, &mut memory, far, 10_001), RunResult { number: 10, place: far });
         assert_eq!(kernel.run(&policy, &mut memory, far, 10_001), RunResult { number: 13, place: far });
-        assert_eq!(kernel.run(&policy, &mut memory, Place { slot: 0, used: 3 }, 0).number, 13);
-        assert_eq!(kernel.run(&policy, &mut memory, Place { slot: 0, used: 2 }, 10_001).number, 14);
+        assert_eq!(kernel.run(&policy, &mut memory, Place::at(0, 3), 0).number, 13);
+        assert_eq!(kernel.run(&policy, &mut memory, Place::at(0, 2), 10_001).number, 14);
         assert_eq!(kernel.pend(&policy, &mut memory, 2, 8), 11);
         assert_eq!(kernel.pend(&policy, &mut memory, 1, 8), 12);
         assert!(memory.iter().all(|&byte| byte == 7));
@@ -135,7 +136,8 @@ fn limits_of_the_calls() {
         assert_eq!(memory[192 + 36], 7 | 128);
         assert_eq!(kernel.start(&policy, &mut memory).number, 0);
         assert!(memory[192..192 + SAVE].iter().all(|&byte| byte == 0) && memory[192 + SAVE] == 7);
-        assert_eq!(kernel.run(&policy, &mut memory, Place::FIRST, 10_000), RunResult { number: 0, place: Place::FIRST });
+        let round = RunResult { number: 0, place: Place { count: 10_000, ..Place::FIRST } };
+        assert_eq!(kernel.run(&policy, &mut memory, Place::FIRST, 10_000), round);
     });
 }
 

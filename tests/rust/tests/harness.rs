@@ -178,7 +178,7 @@ fn generated_programs_move_words() {
             let save = memory[bytes_of(&policy, policy.save[p] as usize)].to_vec();
             let at = policy.base[policy.code[p] as usize] as usize + save[COUNTER] as usize + 256 * save[COUNTER + 1] as usize;
             let instruction = memory.get(at..at + 4).unwrap_or(&[0; 4]).to_vec();
-            if let Event::Ran { opcode: opcode @ 13..=14 } = tick(&policy, &mut memory, p) {
+            if let Event::Ran { opcode: opcode @ 13..=14 } = tick(&policy, &mut memory, p, place.count) {
                 let register = 4 * instruction[2] as usize;
                 let offset = u32::from_le_bytes(save[register..register + 4].try_into().unwrap()) as usize;
                 let (segment, size) = (instruction[3], policy.size[instruction[3] as usize] as usize);

@@ -128,7 +128,7 @@ fn records_near_the_sound_ones() {
                 assert_eq!(record_difference(kernel, &record), None, "{}", show::policy(&record));
                 if !is_sound {
                     let mut bytes = memory.clone();
-                    let place = Place { slot: 0, used: 0 };
+                    let place = Place::at(0, 0);
                     assert_eq!(kernel.start(&record, &mut bytes), RunResult { number: 10, place });
                     assert_eq!(kernel.pend(&record, &mut bytes, 0, 0), 10);
                     assert_eq!(kernel.run(&record, &mut bytes, place, 1), RunResult { number: 10, place });

@@ -203,7 +203,7 @@ fn the_sheet_is_what_runs_show() {
     for _ in 0..200 {
         let (sort, slots) = (random.pick(&SORTS), random.from(3, 9));
         let (policy, _) = of_sort(&mut random, sort, Ticks::Short, slots);
-        let begin = Place { slot: random.below(policy.slots as usize) as u32, used: 0 };
+        let begin = Place::at(random.below(policy.slots as usize) as u32, 0);
         each(|kernel| {
             let currents = two_rounds(kernel, &policy, begin);
             let row = |p: usize| {

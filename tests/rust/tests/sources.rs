@@ -198,7 +198,7 @@ fn a_record_with_a_stray_source_is_not_sound() {
                 assert_eq!(kernel.pend(&record, &mut bytes, partition, line), 10);
             }
             for (slot, used, ticks) in [(0, 0, 0), (0, 0, 1), (0, 0, 10_001), (32, 7, 1)] {
-                let place = Place { slot, used };
+                let place = Place::at(slot, used);
                 assert_eq!(kernel.run(&record, &mut bytes, place, ticks), RunResult { number: 10, place });
             }
             assert_eq!(kernel.start(&record, &mut bytes[1..]).number, 9);

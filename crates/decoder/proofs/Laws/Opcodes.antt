@@ -18,8 +18,8 @@ above (suc n) op d =
     let e = d .1 in
     omega arith
 
-pub instruction-none : (op a b c : ℕ) → NoneBelow 15 op → instructionOf lastOpcode op a b c ≡ Bad
-instruction-none op a b c d = instruction-above lastOpcode op a b c (above 15 op d)
+pub instruction-none : (op a b c : ℕ) → NoneBelow 16 op → instructionOf lastOpcode op a b c ≡ Bad
+instruction-none op a b c d = instruction-above lastOpcode op a b c (above 16 op d)
 
-pub decode-none : (op a b c : ℕ) → NoneBelow 15 op → decodeOf lastOpcode op a b c ≡ Bad
-decode-none op a b c d = decode-above lastOpcode op a b c (above 15 op d)
+pub decode-none : (op a b c : ℕ) → NoneBelow 16 op → decodeOf lastOpcode op a b c ≡ Bad
+decode-none op a b c d = decode-above lastOpcode op a b c (above 16 op d)

@@ -50,6 +50,9 @@ tested-requires-14 c κs = search needs
 tested-requires-15 : tie.Need-tested-requires-15
 tested-requires-15 c κs = search needs
 
+tested-requires-16 : tie.Need-tested-requires-16
+tested-requires-16 c κs = search needs
+
 returns : tie.Need-returns
 returns c = rw (c .before .match .keys1) (c .tested .ensures)
 
@@ -96,7 +99,10 @@ returns-15 : tie.Need-returns-15
 returns-15 c = rw (c .before .match .keys15) (c .tested15 .ensures)
 
 returns-16 : tie.Need-returns-16
-returns-16 c = let a = c .before .args in sym (decode-none (a .op) (a .a) (a .b) (a .c) (c .match .rest))
+returns-16 c = rw (c .before .match .keys16) (c .tested16 .ensures)
+
+returns-17 : tie.Need-returns-17
+returns-17 c = let a = c .before .args in sym (decode-none (a .op) (a .a) (a .b) (a .c) (c .match .rest))
 
 pub decode-spec : {M : Type 1} → statement M
 decode-spec =
@@ -117,6 +123,7 @@ decode-spec =
     tested-requires-13
     tested-requires-14
     tested-requires-15
+    tested-requires-16
     returns
     returns-2
     returns-3
@@ -132,4 +139,5 @@ decode-spec =
     returns-13
     returns-14
     returns-15
-    returns-16)
+    returns-16
+    returns-17)

@@ -73,7 +73,11 @@ unfolding instructionOf
 returns-15 c = rw (c .match .keys15)
 
 returns-16 : tie.Need-returns-16
-returns-16 c = let a = c .before .args in sym (instruction-none (a .op) (a .a) (a .b) (a .c) (c .match .rest))
+unfolding instructionOf
+returns-16 c = rw (c .match .keys16)
+
+returns-17 : tie.Need-returns-17
+returns-17 c = let a = c .before .args in sym (instruction-none (a .op) (a .a) (a .b) (a .c) (c .match .rest))
 
 pub instruction-spec : {M : Type 1} → statement M
 instruction-spec =
@@ -96,4 +100,5 @@ instruction-spec =
     returns-13
     returns-14
     returns-15
-    returns-16)
+    returns-16
+    returns-17)

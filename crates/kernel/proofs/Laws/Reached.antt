@@ -1,7 +1,7 @@
 -- What a Run has reached after some ticks: the state of so many ticks, and one that stands. A stretch of the present slot's partition and a move of
 -- the place reach as many ticks more, since that is what so many of the machine's ticks are.
 use Prim.Native.Nat.{ℕ, zero, suc, _+_, _-_, _≤_, _<_, min}
-use mathlib.Core.Path.{_≡_, refl, sym}
+use mathlib.Core.Path.{_≡_, refl, sym, _∙_, ap}
 use mathlib.Core.Bool.{true}
 use mathlib.Core.List.{List}
 use native.Mathlib.Nat.{zero-add, suc-add, lt-of-lt-of-le}
@@ -15,7 +15,7 @@ use Rattle.policy.specs.Sound.{soundOf}
 use Rattle.policy.proofs.Lawful.{lawful}
 use Rattle.machine.specs.declared.Place.{Place}
 use Rattle.machine.specs.Machine.{State, Stands, seat, next}
-use Rattle.machine.specs.Place.{placeOf}
+use Rattle.machine.specs.Place.{placeOf, countAfter}
 use Rattle.machine.specs.Tick.{tickOf}
 use Rattle.machine.proofs.Laws.Places.{slot-there, used-below}
 use Rattle.tick.specs.Seat.{Seated}
@@ -46,14 +46,18 @@ ticks-add v (suc i) n x = rw suc-add (ticks-add v i n (next v x))
 -- In one slot, ticks of a Run are ticks of the slot's partition.
 ticks-stretch : (v : View) (n : ℕ) (m : List ℕ) (here : Place) → here .used + n ≤ v .ticks (here .slot)
     → afterTicks v n (stateOf m here)
-    ≡ stateOf (tickedBy (seat v (v .owner (here .slot))) (v .code (v .owner (here .slot))) (v .save (v .owner (here .slot))) n m) (movedBy v n here)
+    ≡ stateOf (tickedBy (seat v (v .owner (here .slot))) (v .code (v .owner (here .slot))) (v .save (v .owner (here .slot))) (here .count) n m) (movedBy v n here)
 unfolding afterTicks next tickedBy movedBy
 ticks-stretch v zero m here h = refl
 ticks-stretch v (suc zero) m here h = refl
 ticks-stretch v (suc (suc n)) m here h =
     let p = v .owner (here .slot) in
-    rw (moved-within v here (omega arith))
-    (ticks-stretch v (suc n) (tickOf (seat v p) (v .code p) (v .save p) m) (placeOf (here .slot) (here .used + 1)) (omega arith))
+    let e = moved-within v here (omega arith) in
+    let m′ = tickOf (seat v p) (v .code p) (v .save p) (here .count) m in
+    let one = countAfter 1 (here .count) in
+    ap (λ a. afterTicks v (suc n) (stateOf m′ a)) e
+    ∙ ticks-stretch v (suc n) m′ (placeOf (here .slot) (here .used + 1) one) (omega arith)
+    ∙ ap (λ a. stateOf (tickedBy (seat v p) (v .code p) (v .save p) one (suc n) m′) (movedBy v (suc n) a)) (sym e)
 
 module _ (limits : Limits) (t : Tables) (sound : soundOf limits t ≡ true) (x : State) (m : List ℕ) (here : Place) (i : ℕ) (r : Reached limits t x m here i) where
   w : Lawful limits (viewOf t)
@@ -66,9 +70,9 @@ module _ (limits : Limits) (t : Tables) (sound : soundOf limits t ≡ true) (x :
   used-in = used-below (viewOf t) here (r .stands .placed)
 
   -- As many ticks as are left to a Run and to the slot.
-  pub count-in : (left count : ℕ) → 0 < left → count ≡ min left (getD (t .slots .ticks) (here .slot) 0 - here .used)
-      → (0 < count) × (here .used + count ≤ getD (t .slots .ticks) (here .slot) 0) × (count ≤ left)
-  count-in left count some e = omega (arith, used-in)
+  pub many-in : (left many : ℕ) → 0 < left → many ≡ min left (getD (t .slots .ticks) (here .slot) 0 - here .used)
+      → (0 < many) × (here .used + many ≤ getD (t .slots .ticks) (here .slot) 0) × (many ≤ left)
+  many-in left many some e = omega (arith, used-in)
 
   pub slot-below : here .slot < limits .slots
   slot-below = lt-of-lt-of-le slot-in (w .few-slots)
@@ -83,14 +87,14 @@ module _ (limits : Limits) (t : Tables) (sound : soundOf limits t ≡ true) (x :
       → Seated (t .segments .base) (t .segments .size) (t .segments .count) (getD (t .partitions .code) (ownerOf t here) 0) (getD (t .partitions .save) (ownerOf t here) 0) (length m)
   tick-fits fits bases sizes = rw (r .stands .whole) (record-seated limits t (ownerOf t here) fits bases sizes w owner-in)
 
-  pub reached-more : (count : ℕ) → here .used + count ≤ getD (t .slots .ticks) (here .slot) 0 → (m′ : List ℕ) (here′ : Place)
-      → m′ ≡ tickedBy (seat (viewOf t) (ownerOf t here)) (getD (t .partitions .code) (ownerOf t here) 0) (getD (t .partitions .save) (ownerOf t here) 0) count m
-      → here′ ≡ movedBy (viewOf t) count here
-      → Reached limits t x m′ here′ (i + count)
-  reached-more count h m′ here′ e f =
+  pub reached-more : (many : ℕ) → here .used + many ≤ getD (t .slots .ticks) (here .slot) 0 → (m′ : List ℕ) (here′ : Place)
+      → m′ ≡ tickedBy (seat (viewOf t) (ownerOf t here)) (getD (t .partitions .code) (ownerOf t here) 0) (getD (t .partitions .save) (ownerOf t here) 0) (here .count) many m
+      → here′ ≡ movedBy (viewOf t) many here
+      → Reached limits t x m′ here′ (i + many)
+  reached-more many h m′ here′ e f =
       let v = viewOf t in
-      let steps : stateOf m′ here′ ≡ afterTicks v count (stateOf m here) = rw (e, f) (sym (ticks-stretch v count m here h)) in
+      let steps : stateOf m′ here′ ≡ afterTicks v many (stateOf m here) = rw (e, f) (sym (ticks-stretch v many m here h)) in
       record {
-        stands = rw steps (ticks-stand limits v count (stateOf m here) w (r .stands));
-        state = rw (ticks-add v i count x, ← r .state) steps;
+        stands = rw steps (ticks-stand limits v many (stateOf m here) w (r .stands));
+        state = rw (ticks-add v i many x, ← r .state) steps;
       }

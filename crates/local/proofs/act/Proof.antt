@@ -127,6 +127,12 @@ enum-told-6 c = search needs
 enum-told-7 : tie.Need-enum-told-7
 enum-told-7 c = search needs
 
+enum-known-i-9 : tie.Need-enum-known-i-9
+enum-known-i-9 c = search needs
+
+put-result-requires-7 : tie.Need-put-result-requires-7
+put-result-requires-7 c κs = search needs
+
 same-length : tie.Need-same-length
 same-length c = search needs
 
@@ -278,6 +284,13 @@ returns-15 : tie.Need-returns-15
 unfolding actsOn
 returns-15 c = rw (c .enum-told7 .given .1)
 
+same-length-12 : tie.Need-same-length-12
+same-length-12 c = search needs
+
+returns-16 : tie.Need-returns-16
+unfolding actsOn
+returns-16 c = rw (c .before .before .before .before .before .i9 .given .1, c .before .before .put-result7 .ensures)
+
 pub act-spec : {M : Type 1} → statement M
 act-spec =
     tie.close
@@ -323,6 +336,8 @@ act-spec =
     back-requires
     enum-told-6
     enum-told-7
+    enum-known-i-9
+    put-result-requires-7
     same-length
     returns
     same-length-2
@@ -348,4 +363,6 @@ act-spec =
     same-length-11
     returns-13
     returns-14
-    returns-15)
+    returns-15
+    same-length-12
+    returns-16)

@@ -9,7 +9,7 @@ use borrow.Author.Tests.{eqb-true, ltb-true, ltb-false, lt-ltb}
 use Rattle.machine.specs.declared.Instr.{Instr}
 use Rattle.machine.specs.declared.Decoded.{Decoded}
 use Rattle.machine.specs.declared.Decoded.the-variants.{Runs, Bad}
-use Rattle.machine.specs.Decode.{lastOpcodeOf01, opcodeOf, registerMasks, operandsFit, instructionOf, decodeOf}
+use Rattle.machine.specs.Decode.{lastOpcodeOf01, lastOpcodeBeforeS8, opcodeOf, registerMasks, operandsFit, instructionOf, decodeOf}
 use Rattle.machine.proofs.Laws.Tests.{cond-both}
 
 -- What is decoded has this opcode, if it is an instruction.
@@ -44,7 +44,8 @@ instruction-has last op a b c =
     (test op 11 _ refl
     (test op 12 _ refl
     (test op 13 _ refl
-    (test op 14 _ refl bad)))))))))))))))
+    (test op 14 _ refl
+    (test op 15 _ refl bad))))))))))))))))
 
 pub opcode-kept : (last op a b c : ℕ) (i : Instr) → decodeOf last op a b c ≡ Runs i → opcodeOf i ≡ op
 unfolding decodeOf
@@ -80,3 +81,7 @@ opcode-listed last op a b c i e = rw (opcode-kept last op a b c i e) (go (ltb la
 -- 02, S-2, of 13 and 14: "Both opcodes were fault 2 until now."
 pub were-faults : (op a b c : ℕ) → 13 ≤ op → decodeOf lastOpcodeOf01 op a b c ≡ Bad
 were-faults op a b c h = decode-above lastOpcodeOf01 op a b c (omega arith)
+
+-- 02, S-8, of 15: no opcode before it.
+pub was-fault : (a b c : ℕ) → decodeOf lastOpcodeBeforeS8 15 a b c ≡ Bad
+was-fault a b c = decode-above lastOpcodeBeforeS8 15 a b c (omega arith)

@@ -14,7 +14,7 @@ use Rattle.policy.specs.Schedule.{ticksBefore, roundTicks, slotAt}
 use Rattle.policy.proofs.Laws.Sums.{sum-more, sum-within}
 use Rattle.policy.proofs.Laws.Slots.{slot-in}
 use Rattle.machine.specs.declared.Place.{Place}
-use Rattle.machine.specs.Place.{isPlace, moved, placeOf, position}
+use Rattle.machine.specs.Place.{isPlace, nextSlot, nextUsed, moved, placeOf, position}
 use Rattle.machine.proofs.Laws.Places.{slot-there, used-below}
 
 module _ (v : View) (place : Place) (h : isPlace v place ≡ true) where
@@ -30,14 +30,14 @@ module _ (v : View) (place : Place) (h : isPlace v place ≡ true) where
       (record { begun = omega arith; going = omega (arith, used-below v place h) }))
 
   pub moved-position : (limits : Limits) → Lawful limits v → position v (moved v place) ≡ (position v place + 1) % roundTicks v
-  unfolding moved sumBelow
+  unfolding nextSlot nextUsed sumBelow
   moved-position limits w = go (ltb (place .used + 1) (v .ticks (place .slot))) refl (ltb (place .slot + 1) (v .slots)) refl
     where
       whole : ticksBefore v (place .slot) + v .ticks (place .slot) ≤ roundTicks v
       whole = sum-within (v .ticks) (v .slots) (place .slot) (slot-there v place h)
 
       go : (a : Bool) → ltb (place .used + 1) (v .ticks (place .slot)) ≡ a → (b : Bool) → ltb (place .slot + 1) (v .slots) ≡ b →
-          position v (cond a (placeOf (place .slot) (place .used + 1)) (cond b (placeOf (place .slot + 1) 0) (placeOf 0 0)))
+          position v (placeOf (cond a (place .slot) (cond b (place .slot + 1) 0)) (cond a (place .used + 1) 0) 0)
           ≡ (position v place + 1) % roundTicks v
       go true e b f = sym (mod-eq-of-lt (omega (arith, ltb-true (place .used + 1) (v .ticks (place .slot)) e, whole)) ∙ omega arith)
       go false e true f =

@@ -1,5 +1,5 @@
 -- What the tests of a tick say, by cases on the answer.
-use Prim.Native.Nat.{ℕ, _<_}
+use Prim.Native.Nat.{ℕ, _+_, _<_}
 use mathlib.Core.Path.{_≡_, refl}
 use mathlib.Core.Bool.{Bool, true, false, false≢true, not, _&&_, _||_, cond}
 use mathlib.Core.List.{List}
@@ -7,9 +7,11 @@ use native.Mathlib.Omega.{arith}
 use lib.Dec.{ltb, eqb}
 use borrow.Author.Tests.{ltb-true, eqb-false}
 use Rattle.policy.proofs.Laws.Bools.{and-left, and-right}
-use Rattle.machine.specs.Save.{inHandler, due}
-use Rattle.machine.specs.Local.{takesInterrupt}
-use Rattle.machine.specs.Tick.{Seat, Effect, reaches, applied}
+use Rattle.machine.specs.declared.Fault.the-variants.{CounterOver}
+use Rattle.machine.specs.Save.{counter, inHandler, due}
+use Rattle.machine.specs.Faults.{faults}
+use Rattle.machine.specs.Local.{takesInterrupt, interrupted, isReady}
+use Rattle.machine.specs.Tick.{Seat, Effect, none, saves, reaches, applied}
 
 pub reaches-there : (n : ℕ) (given : Bool) (c : ℕ) → reaches n given c ≡ true → c < n
 unfolding reaches
@@ -42,3 +44,18 @@ applied-cond S from false e f m = refl
 pub cond-both {ℓ} : {A : Type ℓ} (Q : A → Type 0) (b : Bool) {x y : A} → (b ≡ true → Q x) → Q y → Q (cond b x y)
 cond-both Q true f g = f refl
 cond-both Q false f g = g
+
+-- The effect of a tick by its three tests, with what the instruction does: two that do the same where an instruction runs are the same.
+module _ (s : List ℕ) (room : ℕ) where
+  abbrev chosen : Bool → Bool → Bool → Effect → Effect
+  chosen i r o e = cond i (saves (interrupted s)) (cond r (cond o (saves (faults s CounterOver)) e) none)
+
+  pub instruction-decides : (e e′ : Effect) → (takesInterrupt s ≡ false → isReady s ≡ true → ltb room (counter s + 4) ≡ false → e ≡ e′)
+      → chosen (takesInterrupt s) (isReady s) (ltb room (counter s + 4)) e ≡ chosen (takesInterrupt s) (isReady s) (ltb room (counter s + 4)) e′
+  instruction-decides e e′ same = go (takesInterrupt s) refl (isReady s) refl (ltb room (counter s + 4)) refl
+    where
+      go : (i : Bool) → takesInterrupt s ≡ i → (r : Bool) → isReady s ≡ r → (o : Bool) → ltb room (counter s + 4) ≡ o → chosen i r o e ≡ chosen i r o e′
+      go true f r g o h = refl
+      go false f false g o h = refl
+      go false f true g true h = refl
+      go false f true g false h = same f g h

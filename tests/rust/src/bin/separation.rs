@@ -6,9 +6,9 @@ use separation::boundary::Kernel;
 use separation::generate::policies::{policy, Shape};
 use separation::kernels;
 use separation::leaky::{Leak, Leaky, LEAKS};
-use separation::pairs::{check, explain, run_pair, run_pair_under, tick_pair, Pair};
+use separation::pairs::{check, explain, run_pair, run_pair_under, tick_pair, tick_pair_by_count, Pair};
 use separation::random::Random;
-use separation::reference::sources;
+use separation::reference::{sources, Reference};
 use std::time::Instant;
 
 fn main() {
@@ -30,6 +30,17 @@ fn main() {
                 println!("leaky kernel {leak:?}: NOT CAUGHT, the test is too weak");
                 std::process::exit(1);
             }
+        }
+    }
+    // That the counts are equal is a premise that one tick needs.
+    match (1..=20_000).find({
+        let mut random = Random::new(7);
+        move |_| check(&Reference, &tick_pair_by_count(&mut random)).leak.is_some()
+    }) {
+        Some(count) => println!("one tick, counts that differ: a difference by pair {count}"),
+        None => {
+            println!("one tick, counts that differ: NO DIFFERENCE, the test is too weak");
+            std::process::exit(1);
         }
     }
     for kernel in kernels() {

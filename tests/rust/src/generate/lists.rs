@@ -41,21 +41,32 @@ pub struct List {
     pub steps: Vec<Step>,
 }
 
+/// A count: 0, a small one, one from which some ticks come round to 0, or any.
+pub fn count(random: &mut Random) -> u32 {
+    match random.below(8) {
+        0..=1 => 0,
+        2..=3 => random.below(1_000) as u32,
+        4..=5 => u32::MAX - random.pick(&[0, 1, 2, 10, 100, 10_000]).min(random.below(10_001) as u32),
+        _ => random.number() as u32,
+    }
+}
+
 pub fn place(random: &mut Random, policy: &Policy) -> Place {
     let slots = u32::from(policy.slots);
-    match random.below(16) {
-        0 => Place { slot: random.pick(&[slots, slots + 1, 32, 33, 255, 256, 65_536, u32::MAX]), used: random.below(2) as u32 },
+    let (slot, used) = match random.below(16) {
+        0 => (random.pick(&[slots, slots + 1, 32, 33, 255, 256, 65_536, u32::MAX]), random.below(2) as u32),
         1 => {
             let slot = random.below(policy.slots as usize);
             let ticks = u32::from(policy.slot_ticks[slot]);
-            Place { slot: slot as u32, used: random.pick(&[ticks, ticks + 1, ticks.wrapping_sub(1), 1_000, 65_536, u32::MAX]) }
+            (slot as u32, random.pick(&[ticks, ticks + 1, ticks.wrapping_sub(1), 1_000, 65_536, u32::MAX]))
         }
         2..=8 => {
             let slot = random.below(policy.slots as usize);
-            Place { slot: slot as u32, used: random.below(policy.slot_ticks[slot] as usize) as u32 }
+            (slot as u32, random.below(policy.slot_ticks[slot] as usize) as u32)
         }
-        _ => Place::FIRST,
-    }
+        _ => (0, 0),
+    };
+    Place { slot, used, count: count(random) }
 }
 
 pub fn ticks(random: &mut Random) -> u32 {

@@ -8,6 +8,7 @@ use crate::reference::OPCODES;
 /// Of a byte, and of a word.
 const LOADS: [u8; 2] = [7, 13];
 const STORES: [u8; 2] = [8, 14];
+const COUNT: u8 = 15;
 
 fn width(opcode: u8) -> usize {
     if opcode >= 13 {
@@ -142,6 +143,7 @@ impl Writer<'_> {
                 self.put_n(11, lines, handler);
             }
             34 => self.put_bare(10),
+            35 => self.stamp(),
             36 if self.policy.right(self.partition, self.policy.code[self.partition] as usize) == 3 || self.random.one_in(20) => self.own_code(),
             37 if self.random.one_in(8) => self.bad(),
             38 if self.random.one_in(8) => self.put_bare(12),
@@ -268,6 +270,18 @@ impl Writer<'_> {
         self.put_n(9, 5, top);
     }
 
+    /// The count, mostly stored with some of its bytes; the other two bytes of the instruction may have all values.
+    fn stamp(&mut self) {
+        let (a, b, c) = (self.register(), self.random.byte(), self.random.byte());
+        self.put(COUNT, a, b, c);
+        let opcode = self.random.pick(&STORES);
+        let Some(segment) = self.segment(opcode) else { return };
+        let at = (a + 1) % 8;
+        let offset = if width(opcode) == 4 { self.word_offset(segment) } else { self.offset(segment) };
+        self.put_number(at, offset);
+        self.put(opcode, a, at, segment);
+    }
+
     /// A place in the code, mostly one where an instruction begins.
     fn place(&mut self) -> usize {
         match self.random.below(30) {
@@ -308,7 +322,7 @@ impl Writer<'_> {
     fn bad(&mut self) {
         let (a, b, c) = (self.random.byte(), self.random.byte(), self.random.byte());
         let (x, y, z) = (self.register(), self.register(), self.register());
-        let opcode = self.random.pick(&[1, 2, 3, 4, 5, 6, 7, 8, 9, 13, 14]);
+        let opcode = self.random.pick(&[1, 2, 3, 4, 5, 6, 7, 8, 9, 13, 14, 15]);
         let high = self.random.pick(&[8, 9, 15, 16, 128, 255]);
         let none = self.random.from(OPCODES as usize, 255) as u8;
         match self.random.below(6) {

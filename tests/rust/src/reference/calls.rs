@@ -15,7 +15,8 @@ fn refused(policy: &Policy, memory: &[u8]) -> Option<u32> {
     None
 }
 
-/// "Else all save segments become zero, other bytes stay, and the place is slot 0 with 0 used." "a refused Start returns slot 0 with 0 used"
+/// "Else all save segments become zero, other bytes stay, and the place is slot 0 with 0 used." "a refused Start returns slot 0 with 0 used" S-8: the
+/// count, "which Start, refused too, sets to 0".
 pub fn start(policy: &Policy, memory: &mut [u8]) -> RunResult {
     if let Some(number) = refused(policy, memory) {
         return RunResult { number, place: Place::FIRST };
@@ -63,7 +64,7 @@ pub fn run_watched(policy: &Policy, memory: &mut [u8], place: Place, ticks: u32,
     for _ in 0..ticks {
         // "Current is the partition of the present slot."
         let current = policy.slot_partition[place.slot as usize] as usize;
-        watch(tick(policy, memory, current));
+        watch(tick(policy, memory, current, place.count));
         place = next_place(policy, place);
     }
     RunResult { number: 0, place }

@@ -20,10 +20,11 @@ const HALTED: u8 = 1;
 const FAULTED: u8 = 2;
 const WAITING: u8 = 3;
 
-/// Opcodes 0 to 12 of the scope document, and with S-2 13 and 14; every one above is fault 2.
-pub const OPCODES: u8 = 15;
+/// Opcodes 0 to 12 of the scope document, with S-2 13 and 14, and with S-8 15; every one above is fault 2.
+pub const OPCODES: u8 = 16;
 
-/// "The table of opcodes says for each which operand bytes must be registers, below 8": a, b, c. S-2: "operands as for 7 and 8".
+/// "The table of opcodes says for each which operand bytes must be registers, below 8": a, b, c. S-2: "operands as for 7 and 8"; S-8: "a must be a
+/// register".
 const REGISTERS: [[bool; 3]; OPCODES as usize] = [
     [false, false, false], // 0 halt
     [true, false, false],  // 1 set
@@ -40,6 +41,7 @@ const REGISTERS: [[bool; 3]; OPCODES as usize] = [
     [false, false, false], // 12 back
     [true, true, false],   // 13 load word
     [true, true, false],   // 14 store word
+    [true, false, false],  // 15 count
 ];
 
 /// What a tick was (for the count of what the tests have reached).
@@ -47,6 +49,8 @@ const REGISTERS: [[bool; 3]; OPCODES as usize] = [
 pub enum Event {
     Interrupt { line: u8, waiting: bool },
     Ran { opcode: u8 },
+    /// Opcode 15, and what it gave.
+    Counted { count: u32, in_handler: bool },
     Fault { number: u8, why: &'static str },
     Idle { why: &'static str },
 }
@@ -78,8 +82,8 @@ fn save_of<'m>(policy: &Policy, memory: &'m mut [u8], partition: usize) -> Save<
     Save { bytes: &mut memory[base..base + SAVE] }
 }
 
-/// One tick of the current partition, under a sound record and on 16,384 bytes.
-pub fn tick(policy: &Policy, memory: &mut [u8], partition: usize) -> Event {
+/// One tick of the current partition, under a sound record and on 16,384 bytes, at the count of the place before it.
+pub fn tick(policy: &Policy, memory: &mut [u8], partition: usize, count: u32) -> Event {
     let mut save = save_of(policy, memory, partition);
     let state = save.bytes[STATE];
     let in_handler = save.bytes[IN_HANDLER] != 0;
@@ -90,7 +94,8 @@ pub fn tick(policy: &Policy, memory: &mut [u8], partition: usize) -> Event {
     }
     // "Else, with state 0, one instruction runs."
     if state == READY {
-        return match instruction(policy, memory, partition, in_handler) {
+        return match instruction(policy, memory, partition, in_handler, count) {
+            Ok(15) => Event::Counted { count, in_handler },
             Ok(opcode) => Event::Ran { opcode },
             Err((number, why)) => {
                 // "A fault sets state 2 and the fault byte. The rest of memory stays."
@@ -130,7 +135,7 @@ fn interrupt(save: &mut Save, ready_lines: u8, waiting: bool) -> Event {
 type Fault = (u8, &'static str);
 
 /// One instruction: its opcode, or the fault's number. Faults come before any change.
-fn instruction(policy: &Policy, memory: &mut [u8], partition: usize, in_handler: bool) -> Result<u8, Fault> {
+fn instruction(policy: &Policy, memory: &mut [u8], partition: usize, in_handler: bool, count: u32) -> Result<u8, Fault> {
     let counter = save_of(policy, memory, partition).two(COUNTER);
     let [opcode, a, b, c] = fetch(policy, memory, partition, counter)?;
     judge([opcode, a, b, c], in_handler)?;
@@ -141,7 +146,7 @@ fn instruction(policy: &Policy, memory: &mut [u8], partition: usize, in_handler:
         // S-2: "Opcode 13 loads and opcode 14 stores four bytes, little-endian, at offsets rb to rb + 3 of segment c"
         13 => load(policy, memory, partition, [a, b, c], 4).map(|()| counter + 4)?,
         14 => store(policy, memory, partition, [a, b, c], 4).map(|()| counter + 4)?,
-        _ => effect(&mut save_of(policy, memory, partition), [opcode, a, b, c], counter),
+        _ => effect(&mut save_of(policy, memory, partition), [opcode, a, b, c], counter, count),
     };
     save_of(policy, memory, partition).set_two(COUNTER, next_counter);
     Ok(opcode)
@@ -243,7 +248,7 @@ fn why_outside(first: u64, end: u64, length: u64) -> &'static str {
 }
 
 /// What the other instructions do with the save segment, and the counter after them.
-fn effect(save: &mut Save, [opcode, a, b, c]: [u8; 4], counter: u16) -> u16 {
+fn effect(save: &mut Save, [opcode, a, b, c]: [u8; 4], counter: u16, count: u32) -> u16 {
     // "The number n is b + 256 × c."
     let n = u16::from(b) + 256 * u16::from(c);
     match opcode {
@@ -272,6 +277,8 @@ fn effect(save: &mut Save, [opcode, a, b, c]: [u8; 4], counter: u16) -> u16 {
             save.bytes[ENABLED] = a;
             save.set_two(HANDLER, n);
         }
+        // S-8: "Opcode 15 sets ra to the count before its tick"
+        15 => save.set_register(a, count),
         // "12 back: counter = return place, in-handler 0"
         _ => {
             save.bytes[IN_HANDLER] = 0;
@@ -282,12 +289,14 @@ fn effect(save: &mut Save, [opcode, a, b, c]: [u8; 4], counter: u16) -> u16 {
     counter + 4
 }
 
-/// "After each tick the ticks used in the slot gain 1. At the slot's ticks the next slot begins with 0 used; after the last comes slot 0."
+/// "After each tick the ticks used in the slot gain 1. At the slot's ticks the next slot begins with 0 used; after the last comes slot 0." S-8: the count is
+/// "modulo 4,294,967,296", and "each tick raises" it.
 pub fn next_place(policy: &Policy, place: Place) -> Place {
+    let count = place.count.wrapping_add(1);
     let used = place.used + 1;
     if used < u32::from(policy.slot_ticks[place.slot as usize]) {
-        return Place { slot: place.slot, used };
+        return Place { slot: place.slot, used, count };
     }
     let slot = place.slot + 1;
-    Place { slot: if slot < u32::from(policy.slots) { slot } else { 0 }, used: 0 }
+    Place { slot: if slot < u32::from(policy.slots) { slot } else { 0 }, used: 0, count }
 }

@@ -19,13 +19,13 @@ pub fn sheet(policy: &Policy) -> SheetResult {
     result
 }
 
-/// "Current is the partition of the present slot": of each tick from the first place on, until that comes again.
+/// "Current is the partition of the present slot": of each tick from the first slot on, until it begins again.
 fn round(policy: &Policy) -> Vec<usize> {
     let (mut round, mut place) = (Vec::new(), Place::FIRST);
     loop {
         round.push(policy.slot_partition[place.slot as usize] as usize);
         place = next_place(policy, place);
-        if place == Place::FIRST {
+        if (place.slot, place.used) == (0, 0) {
             return round;
         }
     }

@@ -9,7 +9,7 @@ use Rattle.policy.specs.Limits.{single}
 use Rattle.policy.specs.Tables.{viewOf}
 use Rattle.policy.specs.Record.{tablesOf}
 use Rattle.calls.specs.Run.{stateOf, afterTicks}
-use Rattle.kernel.proofs.Laws.Reached.{Reached, ownerOf, reached-none, slot-in, used-in, count-in, slot-below, owner-below, tick-fits, reached-more}
+use Rattle.kernel.proofs.Laws.Reached.{Reached, ownerOf, reached-none, slot-in, used-in, many-in, slot-below, owner-below, tick-fits, reached-more}
 use Rattle.kernel.proofs.running.run_ticks.Statement.{statement}
 use Rattle.kernel.proofs.running.run_ticks.Tie as tie
 
@@ -91,7 +91,7 @@ counts : (f : tie.After-lesser Inv-loop μ-loop)
     × (turn f .loop .here .used + f .lesser .result ≤ getD (turn f .before .before .args .t1 .ticks) (turn f .loop .here .slot) 0)
     × (f .lesser .result ≤ turn f .loop .left)
 counts f =
-    count-in _ _ (turn f .before .before .pre .0) _ _ _ _ (turn f .loop .inv .1) _ (f .lesser .result)
+    many-in _ _ (turn f .before .before .pre .0) _ _ _ _ (turn f .loop .inv .1) _ (f .lesser .result)
     (f .before .before .before .before .before .before .before .before .before .loop-test .taken) (f .lesser .ensures)
 
 stretch-requires : tie.Need-stretch-requires Inv-loop μ-loop
@@ -119,12 +119,12 @@ loop-again c =
     let f = c .before .before .before .before .before .before .before .before .before .before in
     let h = turn f in
     let start = h .before .before in
-    let count = f .lesser .result in
+    let many = f .lesser .result in
     let k = counts f in
-    let e : start .args .n - (h .loop .left - count) ≡ start .args .n - h .loop .left + count = omega (arith, k .2, h .loop .inv .0) in (
+    let e : start .args .n - (h .loop .left - many) ≡ start .args .n - h .loop .left + many = omega (arith, k .2, h .loop .inv .0) in (
       omega (arith, h .loop .inv .0),
       rw e
-          (reached-more _ _ (start .pre .0) _ _ _ _ (h .loop .inv .1) count (k .1) _ _ (c .before .before .before .stretch .ensures)
+          (reached-more _ _ (start .pre .0) _ _ _ _ (h .loop .inv .1) many (k .1) _ _ (c .before .before .before .stretch .ensures)
           (c .move-by .ensures (viewOf (tablesOf (start .args .t1))) refl refl)),
     )
 
