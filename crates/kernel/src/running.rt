@@ -1,9 +1,11 @@
 // Run: ticks by stretches, each of one slot and so of its partition, and the place moves after each stretch.
+use bytes::half_at;
 use calls::Outcome;
 use calls::Placed;
 use machine::MOST_TICKS_OF_RUN;
 use machine::Place;
 use policy::MEMORY;
+use policy::MOST_TICKS;
 use policy::Policy;
 use schedule::is_place;
 use schedule::lesser;
@@ -13,7 +15,8 @@ use validate::passes_test;
 ghost use mathlib.Core.Path.{_≡_};
 ghost use mathlib.Core.Bool.{true};
 ghost use lib.ListN.{length};
-ghost use Rattle.policy.specs.Limits.{single};
+ghost use Prim.Native.Nat.{_≤_};
+ghost use Rattle.policy.specs.Limits.{single, mostTicks};
 ghost use Rattle.policy.specs.Tables.{viewOf};
 ghost use Rattle.policy.specs.Record.{tablesOf};
 ghost use Rattle.policy.specs.Sound.{soundOf};
@@ -37,7 +40,7 @@ fn stretch<'a>(
     count: u32,
     n: u32,
 )
-    requires { ⌜ Seated (now base) (now size) segments code save (length (now memory)) ⌝ }
+    requires { ⌜ Seated (now base) (now size) segments code save (length (now memory)) × (n ≤ mostTicks) ⌝ }
     ensures { λ _.
         ⌜
         now (memory .exit)
@@ -45,13 +48,29 @@ fn stretch<'a>(
         (now (memory .entry))
         ⌝ }
 {
-    let mut at = count;
+    let from = half_at(base, save as usize) as usize;
+    let start = half_at(base, code as usize) as usize;
+    let room = half_at(size, code as usize) as usize;
+    let end = std::num::wrapping_add_u32(count, n);
     let mut left: u32 = n;
     while 0 < left {
-        if !tick(memory, base, size, reads, writes, segments, code, save, at) {
+        // From the ticks left, so that the loop carries one number and not two. A slot has no more than MOST_TICKS, so
+        // the lesser is `left`; without it the compiler carries the count all the same.
+        let at = std::num::wrapping_sub_u32(end, lesser(left, MOST_TICKS));
+        if !tick(
+            memory,
+            base,
+            size,
+            reads,
+            writes,
+            segments,
+            from,
+            start,
+            room,
+            at,
+        ) {
             return;
         }
-        at = std::num::wrapping_add_u32(at, 1);
         left -= 1;
     }
 }

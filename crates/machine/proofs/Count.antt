@@ -123,4 +123,4 @@ module _ (v : View) (x : State) (free : Fetches v x 15 → ⊥) where
   -- So memory after the tick is that after a tick at any other count.
   pub tick-unread : (k : ℕ) → next v x .memory ≡ tickOf (seat v p) (v .code p) (v .save p) k (x .memory)
   unfolding next tickOf
-  tick-unread k = ap (λ e. applied (seat v p) (v .base (v .save p)) e (x .memory)) (effect-unread (x .place .count) k)
+  tick-unread k = ap (λ e. applied (seat v p) (v .base (v .save p)) e (x .memory)) (effect-unread _ k)

@@ -18,7 +18,7 @@ use Rattle.machine.specs.Place.{moved}
 use Rattle.machine.specs.Local.{takesInterrupt, isReady}
 use Rattle.machine.specs.Tick.{Effect, none, saves, stores, Sees, looks, sees, loads, storesBytes, executes, obeys, steps, effect, applied, tickOf}
 use Rattle.machine.specs.Machine.{State, current, seatUpTo, nextUpTo, seat, next}
-use Rattle.machine.specs.Fetches.{Fetches}
+use Rattle.machine.specs.Fetches.{savedOf, codeOf, Fetches}
 use Rattle.machine.proofs.Laws.Opcodes.{decode-above}
 use Rattle.machine.proofs.Laws.Tests.{instruction-decides}
 
@@ -66,32 +66,35 @@ module _ (v : View) (last : ℕ) (k : last ≤ lastOpcode) (x : State) (none-bet
   abbrev p : ℕ
   p = current v x
 
-  abbrev here : Sees
-  here = sees (seatUpTo v last p) (v .code p) (v .save p) (x .place .count) (x .memory)
+  abbrev here : ℕ → Sees
+  here k = sees (seatUpTo v last p) (v .code p) (v .save p) k (x .memory)
 
   abbrev room : ℕ
   room = v .size (v .code p)
 
-  fetched-alike : takesInterrupt (here .saved) ≡ false → isReady (here .saved) ≡ true → ltb room (counter (here .saved) + 4) ≡ false
-      → fetched lastOpcode (here .code) (counter (here .saved)) ≡ fetched last (here .code) (counter (here .saved))
+  abbrev at : ℕ
+  at = counter (savedOf v x)
+
+  fetched-alike : takesInterrupt (savedOf v x) ≡ false → isReady (savedOf v x) ≡ true → ltb room (at + 4) ≡ false
+      → fetched lastOpcode (codeOf v x) at ≡ fetched last (codeOf v x) at
   unfolding fetched
   fetched-alike e f g =
       decode-alike last _ _ _ _ k
       (λ above below. none-between _ above below (record { no-interrupt = e; ready = f; inside = ltb-false _ _ g; at-counter = refl }))
 
-  effect-alike : effect (seatUpTo v lastOpcode p) room here ≡ effect (seatUpTo v last p) room here
+  effect-alike : (c : ℕ) → effect (seatUpTo v lastOpcode p) room (here c) ≡ effect (seatUpTo v last p) room (here c)
   unfolding effect steps
-  effect-alike =
-      instruction-decides (here .saved) room _ _
-      (λ e f g. obeys-alike v last p (here .saved) (here .look) (here .count) _
-      ∙ ap (obeys (seatUpTo v last p) (here .saved) (here .look) (here .count)) (fetched-alike e f g))
+  effect-alike c =
+      instruction-decides (savedOf v x) room _ _
+      (λ e f g. obeys-alike v last p (savedOf v x) (here c .look) c _
+      ∙ ap (obeys (seatUpTo v last p) (savedOf v x) (here c .look) c) (fetched-alike e f g))
 
   pub older-tick : next v x ≡ nextUpTo v last x
   unfolding next tickOf looks
   older-tick =
       ap (λ m. record { memory = m; place = moved v (x .place) })
-      (applied-alike v last p (v .base (v .save p)) (effect (seatUpTo v lastOpcode p) room here) (x .memory)
-      ∙ ap (λ e. applied (seatUpTo v last p) (v .base (v .save p)) e (x .memory)) effect-alike)
+      (applied-alike v last p (v .base (v .save p)) (effect (seatUpTo v lastOpcode p) room (here _)) (x .memory)
+      ∙ ap (λ e. applied (seatUpTo v last p) (v .base (v .save p)) e (x .memory)) (effect-alike _))
 
 -- A tick that fetches an opcode does what is decoded from it and the three bytes behind it, and nothing else: `Fetches` says no more than that.
 pub fetches-obeys : (v : View) (x : State) (op : ℕ) → Fetches v x op →

@@ -217,15 +217,14 @@ module _ (limits : Limits) (v : View) (W : Lawful limits v) where
       → select v t (next v x) ≡ select v t (next v y)
   unfolding next
   separation t x y ht sx sy same ek et es =
-      rw (← same)
-      (tick-separates (current v x) (W .owner-there (x .place .slot) (slot-there v (x .place) (sx .placed))) t (x .place .count) (y .place .count) (x .memory) (y .memory)
-      ht (sx .whole) (sy .whole) ek et es)
+      rw (← same, ek)
+      (tick-separates (current v x) (W .owner-there (x .place .slot) (slot-there v (x .place) (sx .placed))) t _ _ (x .memory) (y .memory) ht (sx .whole) (sy .whole) refl et es)
 
   -- A tick keeps memory's size, and the place in the schedule.
   pub next-stands : (x : State) → Stands limits v x → Stands limits v (next v x)
   unfolding next
   next-stands x s =
       record {
-        whole = after-length (current v x) (W .owner-there (x .place .slot) (slot-there v (x .place) (s .placed))) (x .place .count) (x .memory) (s .whole);
+        whole = after-length (current v x) (W .owner-there (x .place .slot) (slot-there v (x .place) (s .placed))) _ (x .memory) (s .whole);
         placed = moved-stays limits v (x .place) W (s .placed);
       }

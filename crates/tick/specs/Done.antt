@@ -1,8 +1,9 @@
--- Memory after each step of a tick, with the save bytes from `from` on.
+-- Memory after each step of a tick, by numbers: the save bytes from `from` on, and `room` bytes of code from `start` on.
 use Prim.Native.Nat.{ℕ}
 use mathlib.Core.List.{List}
 use Rattle.machine.specs.declared.Decoded.{Decoded}
-use Rattle.machine.specs.Tick.{Seat, looks, loads, storesBytes, obeys, steps, sees, applied}
+use Rattle.machine.specs.Bytes.{part}
+use Rattle.machine.specs.Tick.{Seat, Sees, looks, loads, storesBytes, obeys, steps, effect, applied}
 use Rattle.parts.specs.Parts.{savedAt, withSaved}
 
 module _ (S : Seat) where
@@ -16,5 +17,14 @@ module _ (S : Seat) where
   abbrev pub obeyed : ℕ → List ℕ → ℕ → Decoded → List ℕ
   obeyed from memory count d = applied S from (obeys S (savedAt memory from) (looks S memory) count d) memory
 
-  abbrev pub stepped : ℕ → ℕ → ℕ → List ℕ → List ℕ
-  stepped code save count memory = applied S (S .base save) (steps S (S .size code) (sees S code save count memory)) memory
+  -- What the partition sees whose bytes these are.
+  abbrev pub seesFrom : ℕ → ℕ → ℕ → ℕ → List ℕ → Sees
+  seesFrom from start room count memory =
+      record { saved = savedAt memory from; code = part memory start room; look = looks S memory; count = count }
+
+  abbrev pub stepped : ℕ → ℕ → ℕ → ℕ → List ℕ → List ℕ
+  stepped from start room count memory = applied S from (steps S room (seesFrom from start room count memory)) memory
+
+  -- The machine's tick of a partition is this one, at its segments' bases and its code's size.
+  abbrev pub ticked : ℕ → ℕ → ℕ → ℕ → List ℕ → List ℕ
+  ticked from start room count memory = applied S from (effect S room (seesFrom from start room count memory)) memory

@@ -6,7 +6,6 @@ mod storing;
 mod words;
 
 use crate::loading::load;
-use crate::reach::entry;
 use crate::storing::store;
 use crate::words::load_word;
 use crate::words::store_word;
@@ -23,13 +22,12 @@ use parts::takes_interrupt;
 use policy::SAVE_SIZE;
 ghost use mathlib.Core.Path.{_≡_};
 ghost use Prim.Native.Nat.{_+_, _≤_};
-ghost use lib.ListN.{length, getD};
+ghost use lib.ListN.{length};
 ghost use Rattle.policy.specs.Limits.{saveSize};
 ghost use Rattle.machine.specs.Local.{isAble};
-ghost use Rattle.machine.specs.Tick.{tickOf};
 ghost use Rattle.parts.specs.Parts.{savedAt};
-ghost use Rattle.tick.specs.Seat.{seatOf, Inside, Seated};
-ghost use Rattle.tick.specs.Done.{obeyed, stepped};
+ghost use Rattle.tick.specs.Seat.{seatOf, Inside};
+ghost use Rattle.tick.specs.Done.{obeyed, stepped, ticked};
 
 // A load and a store are lent a segment; every other instruction the save bytes alone.
 fn obey<'a>(
@@ -85,21 +83,21 @@ fn step<'a>(
     reads: u64,
     writes: u64,
     segments: u8,
-    code: u8,
-    save: u8,
+    from: usize,
+    start: usize,
+    room: usize,
     count: u32,
 )
-    requires { ⌜ Seated (now base) (now size) segments code save (length (now memory)) ⌝ }
+    requires { ⌜ from + saveSize ≤ length (now memory) ⌝ }
+    requires { ⌜ start + room ≤ length (now memory) ⌝ }
+    requires { ⌜ Inside (now base) (now size) segments (length (now memory)) ⌝ }
     ensures { λ _.
         ⌜
         now (memory .exit)
         ≡ stepped (seatOf (now (base .entry)) (now (size .entry)) reads writes segments)
-        code save count (now (memory .entry))
+        from start room count (now (memory .entry))
         ⌝ }
 {
-    let from = entry(base, save as u32);
-    let start = entry(base, code as u32);
-    let room = entry(size, code as u32);
     let pc = get_counter(memory, from);
     if room < (pc as usize) + 4 {
         fault(memory, from, Fault::CounterOver);
@@ -109,7 +107,7 @@ fn step<'a>(
     }
 }
 
-// A tick, at this count, of the partition with this code and this save segment, and the masks of the segments on which a
+// A tick, at this count, of the partition with these save bytes and this code, and the masks of the segments on which a
 // line gives it r and w; whether it had something to do.
 pub fn tick<'a>(
     memory: &mut [u8],
@@ -118,20 +116,22 @@ pub fn tick<'a>(
     reads: u64,
     writes: u64,
     segments: u8,
-    code: u8,
-    save: u8,
+    from: usize,
+    start: usize,
+    room: usize,
     count: u32,
 ) -> bool
-    requires { ⌜ Seated (now base) (now size) segments code save (length (now memory)) ⌝ }
+    requires { ⌜ from + saveSize ≤ length (now memory) ⌝ }
+    requires { ⌜ start + room ≤ length (now memory) ⌝ }
+    requires { ⌜ Inside (now base) (now size) segments (length (now memory)) ⌝ }
     ensures { λ r.
         ⌜
         (now (memory .exit)
-        ≡ tickOf (seatOf (now (base .entry)) (now (size .entry)) reads writes segments) code save count
-        (now (memory .entry)))
-        × (r ≡ isAble (savedAt (now (memory .entry)) (getD (now (base .entry)) save 0)))
+        ≡ ticked (seatOf (now (base .entry)) (now (size .entry)) reads writes segments)
+        from start room count (now (memory .entry)))
+        × (r ≡ isAble (savedAt (now (memory .entry)) from))
         ⌝ }
 {
-    let from = entry(base, save as u32);
     if takes_interrupt(memory, from) {
         interrupt(memory, from);
         return true;
@@ -144,8 +144,9 @@ pub fn tick<'a>(
             reads,
             writes,
             segments,
-            code,
-            save,
+            from,
+            start,
+            room,
             count,
         );
         return true;

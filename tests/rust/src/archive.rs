@@ -123,13 +123,4 @@ linked!(Archive, "archive", "boundary", "", Place, RunResult, all(), all());
 linked!(Before, "before", "before", "before_", Place, RunResult, all(), all());
 
 #[cfg(all(feature = "before", not(feature = "before-counts")))]
-linked!(
-    Before,
-    "before",
-    "before",
-    "before_",
-    uncounted::Place,
-    uncounted::RunResult,
-    feature = "before-reaches",
-    feature = "before-sheets"
-);
+linked!(Before, "before", "before", "before_", uncounted::Place, uncounted::RunResult, feature = "before-reaches", feature = "before-sheets");

@@ -191,7 +191,7 @@ fn two_rounds(kernel: &dyn Kernel, policy: &Policy, begin: Place) -> Vec<usize> 
     while rounds < 2 {
         currents.push(policy.slot_partition[place.slot as usize] as usize);
         place = kernel.run(policy, &mut memory, place, 1).place;
-        rounds += (place == begin) as u32;
+        rounds += ((place.slot, place.used) == (begin.slot, begin.used)) as u32;
     }
     currents
 }

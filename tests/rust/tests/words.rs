@@ -163,7 +163,7 @@ fn a_word_from_one_partition_to_the_other() {
         memory[..8].copy_from_slice(&[1, 1, 12, 0, 14, 0, 1, 4]);
         memory[128..136].copy_from_slice(&[1, 1, 12, 0, 13, 2, 1, 4]);
         memory[64..68].copy_from_slice(&[1, 2, 3, 4]);
-        assert_eq!(kernel.run(&demonstration(), &mut memory, Place::FIRST, 5).place, Place::FIRST);
+        assert_eq!(kernel.run(&demonstration(), &mut memory, Place::FIRST, 5).place, Place { count: 5, ..Place::FIRST });
         assert_eq!((&memory[268..272], &memory[192 + 8..192 + 12]), (&[1, 2, 3, 4][..], &[1, 2, 3, 4][..]));
         assert_eq!((memory[267], memory[272], memory[64 + 34], memory[192 + 34]), (0, 0, 1, 0));
     });

@@ -7,7 +7,7 @@ use mathlib.Core.List.{List}
 use native.Mathlib.Nat.{zero-add, suc-add, lt-of-lt-of-le}
 use native.Mathlib.Omega.{arith}
 use lib.ListN.{length, getD}
-use Rattle.policy.specs.Limits.{Limits}
+use Rattle.policy.specs.Limits.{Limits, mostTicks}
 use Rattle.policy.specs.View.{View}
 use Rattle.policy.specs.Lawful.{Lawful}
 use Rattle.policy.specs.Tables.{Tables, viewOf}
@@ -73,6 +73,9 @@ module _ (limits : Limits) (t : Tables) (sound : soundOf limits t ≡ true) (x :
   pub many-in : (left many : ℕ) → 0 < left → many ≡ min left (getD (t .slots .ticks) (here .slot) 0 - here .used)
       → (0 < many) × (here .used + many ≤ getD (t .slots .ticks) (here .slot) 0) × (many ≤ left)
   many-in left many some e = omega (arith, used-in)
+
+  pub many-few : (many : ℕ) → here .used + many ≤ getD (t .slots .ticks) (here .slot) 0 → many ≤ mostTicks
+  many-few many h = omega (arith, w .ticks-most (here .slot) slot-in)
 
   pub slot-below : here .slot < limits .slots
   slot-below = lt-of-lt-of-le slot-in (w .few-slots)

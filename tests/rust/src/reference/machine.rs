@@ -44,12 +44,11 @@ const REGISTERS: [[bool; 3]; OPCODES as usize] = [
     [true, false, false],  // 15 count
 ];
 
-/// What a tick was (for the count of what the tests have reached).
+/// What a tick was (for the count of what the tests have reached); opcode 15 with what it gave.
 #[derive(Clone, Copy, PartialEq, Eq, Debug)]
 pub enum Event {
     Interrupt { line: u8, waiting: bool },
     Ran { opcode: u8 },
-    /// Opcode 15, and what it gave.
     Counted { count: u32, in_handler: bool },
     Fault { number: u8, why: &'static str },
     Idle { why: &'static str },

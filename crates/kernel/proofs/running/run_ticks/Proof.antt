@@ -9,7 +9,7 @@ use Rattle.policy.specs.Limits.{single}
 use Rattle.policy.specs.Tables.{viewOf}
 use Rattle.policy.specs.Record.{tablesOf}
 use Rattle.calls.specs.Run.{stateOf, afterTicks}
-use Rattle.kernel.proofs.Laws.Reached.{Reached, ownerOf, reached-none, slot-in, used-in, many-in, slot-below, owner-below, tick-fits, reached-more}
+use Rattle.kernel.proofs.Laws.Reached.{Reached, ownerOf, reached-none, slot-in, used-in, many-in, many-few, slot-below, owner-below, tick-fits, reached-more}
 use Rattle.kernel.proofs.running.run_ticks.Statement.{statement}
 use Rattle.kernel.proofs.running.run_ticks.Tie as tie
 
@@ -96,9 +96,12 @@ counts f =
 
 stretch-requires : tie.Need-stretch-requires Inv-loop μ-loop
 stretch-requires c κs =
-    let h = turn (c .before .before .before .before .before .before) in
-    let g = h .before .before .good .0 in
-    tick-fits _ _ (h .before .before .pre .0) _ _ _ _ (h .loop .inv .1) (omega arith) (search (needs, g)) (search (needs, g))
+    let f = c .before .before .before .before .before .before in
+    let h = turn f in
+    let g = h .before .before .good .0 in (
+      tick-fits _ _ (h .before .before .pre .0) _ _ _ _ (h .loop .inv .1) (omega arith) (search (needs, g)) (search (needs, g)),
+      many-few _ _ (h .before .before .pre .0) _ _ _ _ (h .loop .inv .1) _ (counts f .1),
+    )
 
 move-by-requires : tie.Need-move-by-requires Inv-loop μ-loop
 move-by-requires c κs =

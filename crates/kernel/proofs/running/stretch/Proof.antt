@@ -5,24 +5,56 @@ use borrow.Author.Needs.{needs}
 use borrow.Author.Tests.{not-true}
 use lib.ListN.{length}
 use Rattle.tick.specs.Seat.{seatOf}
-use Rattle.kernel.proofs.Laws.Ticks.{Going, none-yet, one-more, all-done, idle-rest}
+use Rattle.tick.proofs.Laws.Reach.{save-inside}
+use Rattle.kernel.proofs.Laws.Ticks.{Going, by-numbers, none-yet, next-count, one-more, all-done, idle-rest}
 use Rattle.kernel.proofs.running.stretch.Statement.{statement}
 use Rattle.kernel.proofs.running.stretch.Tie as tie
 
 abbrev Inv-loop : tie.InvT-loop
-Inv-loop memory₀ base size reads writes segments code save count n at₀ left₀ memory at left =
-    (length memory ≡ length memory₀) × Going (seatOf base size reads writes segments) code save count n memory₀ left at memory
+Inv-loop memory₀ base size reads writes segments code save count n from start room end left₀ memory left =
+    (length memory ≡ length memory₀) × Going (seatOf base size reads writes segments) code save count n memory₀ left memory
 
 abbrev μ-loop : tie.MeasureT-loop
-μ-loop memory₀ base size reads writes segments code save count n at₀ left₀ memory at left = left
+μ-loop memory₀ base size reads writes segments code save count n from start room end left₀ memory left = left
+
+half-at-requires : tie.Need-half-at-requires Inv-loop μ-loop
+half-at-requires c κs = search needs
+
+cast-from : tie.Need-cast-from Inv-loop μ-loop
+cast-from c = search needs
+
+half-at-requires-2 : tie.Need-half-at-requires-2 Inv-loop μ-loop
+half-at-requires-2 c κs = search needs
+
+cast-start : tie.Need-cast-start Inv-loop μ-loop
+cast-start c = search needs
+
+half-at-requires-3 : tie.Need-half-at-requires-3 Inv-loop μ-loop
+half-at-requires-3 c κs = search needs
+
+cast-room : tie.Need-cast-room Inv-loop μ-loop
+cast-room c = search needs
+
+wrapping-add-u32-requires : tie.Need-wrapping-add-u32-requires Inv-loop μ-loop
+wrapping-add-u32-requires c κs = search needs
 
 loop-holds : tie.Need-loop-holds Inv-loop μ-loop
-loop-holds c = (refl, none-yet _ _ _ _ _ _ (search (needs, c .before .before .before .fits)))
+loop-holds c = (refl, none-yet _ _ _ _ _ _)
+
+lesser-requires : tie.Need-lesser-requires Inv-loop μ-loop
+lesser-requires c κs = search needs
+
+wrapping-sub-u32-requires : tie.Need-wrapping-sub-u32-requires Inv-loop μ-loop
+wrapping-sub-u32-requires c κs = search needs
 
 tick-requires : tie.Need-tick-requires Inv-loop μ-loop
 tick-requires c κs =
-    let b = c .before .before in
-    rw (b .loop .inv .0) (b .before .before .before .before .pre)
+    let b = c .before .before .before .before in
+    let r = b .before .before in
+    let p = r .before .before .before .before .before .before .pre .0 in (
+      rw (b .loop .inv .0, r .before .before .half-at .ensures) (save-inside p),
+      (rw (b .loop .inv .0, r .before .half-at2 .ensures, r .half-at3 .ensures) (p .every .inside _ (p .code-there)), rw (b .loop .inv .0) (p .every)),
+    )
 
 same-length : tie.Need-same-length Inv-loop μ-loop
 same-length c = search needs
@@ -30,11 +62,12 @@ same-length c = search needs
 returns : tie.Need-returns Inv-loop μ-loop
 returns c =
     let t = c .before .before .before .tick in
-    let g = c .before .before .before .before .before .before .loop .inv .1 in
-    idle-rest _ _ _ _ _ _ _ _ _ _ g (sym (t .ensures .1) ∙ not-true _ (c .if1 .taken)) (t .ensures .0)
-
-wrapping-add-u32-requires : tie.Need-wrapping-add-u32-requires Inv-loop μ-loop
-wrapping-add-u32-requires c κs = search needs
+    let h = c .before .before .before .before .before .before .before .before in
+    let r = h .before .before in
+    let f = r .before .before .half-at .ensures in
+    idle-rest _ _ _ _ _ _ _ _ _ _ (h .loop .inv .1)
+    (rw (← f) (sym (t .ensures .1) ∙ not-true _ (c .if1 .taken)))
+    (by-numbers _ _ _ _ _ _ _ _ _ f (r .before .half-at2 .ensures) (r .half-at3 .ensures) (t .ensures .0))
 
 sub-left : tie.Need-sub-left Inv-loop μ-loop
 sub-left c = search needs
@@ -44,11 +77,17 @@ loop-less c = search needs
 
 loop-again : tie.Need-loop-again Inv-loop μ-loop
 loop-again c =
-    let t = c .before .before .before .before .tick in
-    let l = c .before .before .before .before .before .before in
-    let start = l .before .before .before .before .before in (
+    let t = c .before .before .before .tick in
+    let d = c .before .before .before .before .before in
+    let l = d .before .before in
+    let e = l .before .before in
+    let r = e .before in
+    let start = r .before .before .before .before .before .before in
+    let g = l .before .loop .inv .1 in
+    let at = next-count _ _ _ _ _ _ (g .most) (start .pre .1) (search needs) (e .wrapping-add-u32 .ensures) (d .before .lesser .ensures) (d .wrapping-sub-u32 .ensures) in (
       search needs,
-      one-more _ _ _ _ _ _ _ _ _ _ _ (search (needs, start .fits)) (l .loop-test .taken) (l .before .loop .inv .1) (c .wrapping-add-u32 .ensures) (t .ensures .0),
+      one-more _ _ _ _ _ _ _ _ _ _ (search (needs, start .fits)) (l .loop-test .taken) at g
+          (by-numbers _ _ _ _ _ _ _ _ _ (r .before .before .half-at .ensures) (r .before .half-at2 .ensures) (r .half-at3 .ensures) (t .ensures .0)),
     )
 
 same-length-2 : tie.Need-same-length-2 Inv-loop μ-loop
@@ -58,7 +97,7 @@ returns-2 : tie.Need-returns-2 Inv-loop μ-loop
 returns-2 c =
     let h = c .before .loop in
     let none : h .left ≡ 0 = omega (arith, c .loop-test .left) in
-    all-done _ _ _ _ _ _ _ _ (rw none at (h .inv .1))
+    all-done _ _ _ _ _ _ _ (rw none at (h .inv .1))
 
 pub stretch-spec : {M : Type 1} → statement M
 stretch-spec =
@@ -66,11 +105,19 @@ stretch-spec =
     (tie.spec
     Inv-loop
     μ-loop
+    half-at-requires
+    cast-from
+    half-at-requires-2
+    cast-start
+    half-at-requires-3
+    cast-room
+    wrapping-add-u32-requires
     loop-holds
+    lesser-requires
+    wrapping-sub-u32-requires
     tick-requires
     same-length
     returns
-    wrapping-add-u32-requires
     sub-left
     loop-less
     loop-again
