@@ -1,10 +1,11 @@
 //! Change request S-8: the count of ticks since Start, and opcode 15, on the reference and on each kernel.
 
 use separation::boundary::{Kernel, Place, Policy, RunResult, MEMORY};
-use separation::generate::lists::count;
+use separation::compare::list_difference;
+use separation::generate::lists::{count, list};
 use separation::generate::workloads::policy_of;
 use separation::random::Random;
-use separation::{demonstration, each};
+use separation::{as_reference, demonstration, each, reference};
 
 /// One partition with 64 bytes of code at 0 and its save segment at 64, in a slot of 7 ticks.
 const SAVE: usize = 64;
@@ -135,8 +136,8 @@ fn start_sets_the_count_to_0_and_refused_runs_leave_it() {
 /// "Old opcodes act as they did": without opcode 15 the count decides nothing.
 #[test]
 fn without_opcode_15_the_count_decides_nothing() {
-    let mut random = Random::new(18);
     each(|kernel| {
+        let mut random = Random::new(18);
         for _ in 0..300 {
             let mut memory = vec![0; MEMORY];
             random.fill(&mut memory[..272]);
@@ -162,4 +163,94 @@ fn all_partitions_read_one_clock() {
             assert_eq!((register(&memory, 192, 2), register(&memory, 192, 3)), (3, 4), "{}: {other:?}", kernel.name());
         }
     });
+}
+
+/// Wrong about the count, one way each.
+#[derive(Clone, Copy, PartialEq, Eq, Debug)]
+enum Miscount {
+    /// Start leaves a count of 1.
+    StartAtOne,
+    /// So does one that is refused, and no other.
+    RefusedStartAtOne,
+    /// The count stays at its end.
+    Saturates,
+    /// All ticks of a Run get its first count.
+    StandsInARun,
+    /// A tick gets the count after it.
+    After,
+    /// The first tick of a slot isn't counted.
+    SlotsUncounted,
+    /// A refused Run gives count 0 back.
+    RefusedRunForgets,
+    /// 13 refuses the highest count.
+    HighestRefused,
+}
+
+const MISCOUNTS: [Miscount; 8] = [
+    Miscount::StartAtOne,
+    Miscount::RefusedStartAtOne,
+    Miscount::Saturates,
+    Miscount::StandsInARun,
+    Miscount::After,
+    Miscount::SlotsUncounted,
+    Miscount::RefusedRunForgets,
+    Miscount::HighestRefused,
+];
+
+impl Miscount {
+    /// The count that the tick of a place gets, in a Run that began at another.
+    fn told(self, place: Place, begun: u32) -> u32 {
+        match self {
+            Miscount::StandsInARun => begun,
+            Miscount::After => place.count.wrapping_add(1),
+            _ => place.count,
+        }
+    }
+
+    fn next(self, policy: &Policy, place: Place) -> Place {
+        let next = reference::next_place(policy, place);
+        match self {
+            Miscount::Saturates => Place { count: place.count.saturating_add(1), ..next },
+            Miscount::SlotsUncounted if place.used == 0 => Place { count: place.count, ..next },
+            _ => next,
+        }
+    }
+}
+
+impl Kernel for Miscount {
+    fn name(&self) -> &'static str {
+        "miscount"
+    }
+    as_reference!(read, sound, pend, reach, can_reach, sheet);
+    fn start(&self, policy: &Policy, memory: &mut [u8]) -> RunResult {
+        let mut result = reference::start(policy, memory);
+        let wrong = *self == Miscount::StartAtOne || *self == Miscount::RefusedStartAtOne && result.number > 0;
+        result.place.count = wrong as u32;
+        result
+    }
+    fn run(&self, policy: &Policy, memory: &mut [u8], place: Place, ticks: u32) -> RunResult {
+        let number = reference::run(policy, &mut memory.to_vec(), place, ticks).number;
+        if number > 0 {
+            let count = if *self == Miscount::RefusedRunForgets { 0 } else { place.count };
+            return RunResult { number, place: Place { count, ..place } };
+        }
+        if *self == Miscount::HighestRefused && place.count == u32::MAX {
+            return RunResult { number: 13, place };
+        }
+        let mut at = place;
+        for _ in 0..ticks {
+            reference::tick(policy, memory, policy.slot_partition[at.slot as usize] as usize, self.told(at, place.count));
+            at = self.next(policy, at);
+        }
+        RunResult { number: 0, place: at }
+    }
+}
+
+/// Generated lists tell each wrong count from the right one.
+#[test]
+fn wrong_counts_are_found() {
+    for wrong in MISCOUNTS {
+        let mut random = Random::new(19);
+        assert!((0..20_000).any(|_| list_difference(&wrong, &list(&mut random)).is_some()), "{wrong:?}");
+    }
 }

@@ -122,8 +122,8 @@ fn faults_come_in_their_order() {
 }
 
 #[test]
-fn every_opcode_above_14_is_fault_2() {
-    each(|kernel| (15..=255).for_each(|opcode| faults(kernel, &memory(&[], &[[opcode, 0, 0, 5]]), 2)));
+fn every_opcode_above_15_is_fault_2() {
+    each(|kernel| (16..=255).for_each(|opcode| faults(kernel, &memory(&[], &[[opcode, 0, 0, 5]]), 2)));
 }
 
 /// The offset and the value are read before anything is written.
