@@ -9,7 +9,7 @@ use separation::generate::policies::{longest, policy, Shape};
 use separation::generate::records::perturb;
 use separation::generate::texts::text;
 use separation::leaky::{Leaky, LEAKS};
-use separation::pairs::{bytes_of, check, explain, run_pair, tick_pair};
+use separation::pairs::{bytes_of, check, explain, run_pair, tick_pair, tick_pair_by_count};
 use separation::random::Random;
 use separation::reference::{self, judge, judge_without_16, readable, sound, sources, tick, writable, Event, Reference, COUNTER, ENABLED};
 use separation::{accepted, as_reference, refused, show, shrink};
@@ -199,6 +199,7 @@ fn pairs_are_as_the_demand_has_them() {
     let mut random = Random::new(14);
     for _ in 0..2_000 {
         let pair = run_pair(&mut random);
+        assert_eq!(pair.places[0], pair.places[1]);
         let same = sources(&pair.policy, pair.target);
         let segments = pair.policy.segments as usize;
         for segment in (0..segments).filter(|&segment| same[segment]) {
@@ -231,8 +232,20 @@ fn pairs_are_as_the_demand_has_them() {
         assert_eq!(pended[0], pended[1]);
         assert!(check(&Reference, &pair).leak.is_none(), "{}", explain(&Reference, &pair));
         let pair = tick_pair(&mut random);
+        assert_eq!(pair.places[0].count, pair.places[1].count);
         assert!(check(&Reference, &pair).leak.is_none(), "{}", explain(&Reference, &pair));
     }
+}
+
+/// That the counts are equal is a premise that one tick needs; slots and ticks used may differ.
+#[test]
+fn counts_that_differ_show() {
+    let mut random = Random::new(17);
+    assert!((0..20_000).any(|_| check(&Reference, &tick_pair_by_count(&mut random)).leak.is_some()));
+    assert!((0..200).any(|_| {
+        let places = tick_pair(&mut random).places;
+        places[0].slot != places[1].slot && places[0].used != places[1].used
+    }));
 }
 
 #[test]
