@@ -5,7 +5,6 @@ use calls::Placed;
 use machine::MOST_TICKS_OF_RUN;
 use machine::Place;
 use policy::MEMORY;
-use policy::MOST_TICKS;
 use policy::Policy;
 use schedule::is_place;
 use schedule::lesser;
@@ -54,9 +53,9 @@ fn stretch<'a>(
     let end = std::num::wrapping_add_u32(count, n);
     let mut left: u32 = n;
     while 0 < left {
-        // From the ticks left, so that the loop carries one number and not two. A slot has no more than MOST_TICKS, so
-        // the lesser is `left`; without it the compiler carries the count all the same.
-        let at = std::num::wrapping_sub_u32(end, lesser(left, MOST_TICKS));
+        // From the ticks left, so that the loop carries one number and not two. A slot has at most 1,000, so the remainder
+        // is `left`; without it the compiler carries the count all the same.
+        let at = std::num::wrapping_sub_u32(end, left % 1024);
         if !tick(
             memory,
             base,

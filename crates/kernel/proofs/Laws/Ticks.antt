@@ -1,9 +1,10 @@
 -- Ticks of one partition in a row: one more may be done last as well as first; and one of a partition that is not able has no effect at any count, so
 -- memory stays, and with it that the partition is not able.
-use Prim.Native.Nat.{ℕ, zero, suc, _+_, _-_, _%_, _≤_, _<_, min}
-use mathlib.Core.Path.{_≡_, refl, _∙_, ap}
+use Prim.Native.Nat.{ℕ, zero, suc, _+_, _-_, _%_, _≤_, _<_}
+use mathlib.Core.Path.{_≡_, refl, sym, _∙_, ap}
 use mathlib.Core.Bool.{false}
 use mathlib.Core.List.{List}
+use native.Mathlib.Nat.{mod-eq-of-lt}
 use native.Mathlib.Omega.{arith}
 use Rattle.policy.specs.Limits.{mostTicks}
 use Rattle.policy.proofs.Laws.Bools.{or-left, or-right}
@@ -16,9 +17,16 @@ use Rattle.machine.proofs.Laws.Places.{count-none, count-one, count-below}
 use Rattle.kernel.specs.Stretch.{tickedBy}
 
 -- The next tick's count is as many short of the last one's as there are ticks left.
-pub next-count : (c n left end rest at : ℕ) → left ≤ n → n ≤ mostTicks → at < counts → end ≡ countAfter n c → rest ≡ min left mostTicks → (at + rest) % counts ≡ end
-    → at ≡ countAfter (n - left) c
-next-count c n left end rest at most small fits e f g = omega arith
+short-by : (c n left end at : ℕ) → left ≤ n → n ≤ mostTicks → at < counts → end ≡ countAfter n c → (at + left) % counts ≡ end → at ≡ countAfter (n - left) c
+short-by c n left end at most small fits e f = omega arith
+
+-- A slot has at most 1,000 ticks.
+few-left : (left : ℕ) → left ≤ mostTicks → left % 1024 ≡ left
+few-left left h = mod-eq-of-lt (omega arith)
+
+pub next-count : (c n left end at : ℕ) → left ≤ n → n ≤ mostTicks → at < counts → end ≡ countAfter n c → (at + left % 1024) % counts ≡ end → at ≡ countAfter (n - left) c
+next-count c n left end at most small fits e f =
+    short-by c n left end at most small fits e (ap (λ k. (at + k) % counts) (sym (few-left left (omega arith))) ∙ f)
 
 module _ (S : Seat) (code save : ℕ) where
   abbrev After : ℕ → ℕ → List ℕ → List ℕ → Type 0

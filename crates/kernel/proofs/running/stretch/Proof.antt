@@ -41,15 +41,12 @@ wrapping-add-u32-requires c κs = search needs
 loop-holds : tie.Need-loop-holds Inv-loop μ-loop
 loop-holds c = (refl, none-yet _ _ _ _ _ _)
 
-lesser-requires : tie.Need-lesser-requires Inv-loop μ-loop
-lesser-requires c κs = search needs
-
 wrapping-sub-u32-requires : tie.Need-wrapping-sub-u32-requires Inv-loop μ-loop
 wrapping-sub-u32-requires c κs = search needs
 
 tick-requires : tie.Need-tick-requires Inv-loop μ-loop
 tick-requires c κs =
-    let b = c .before .before .before .before in
+    let b = c .before .before .before in
     let r = b .before .before in
     let p = r .before .before .before .before .before .before .pre .0 in (
       rw (b .loop .inv .0, r .before .before .half-at .ensures) (save-inside p),
@@ -62,7 +59,7 @@ same-length c = search needs
 returns : tie.Need-returns Inv-loop μ-loop
 returns c =
     let t = c .before .before .before .tick in
-    let h = c .before .before .before .before .before .before .before .before in
+    let h = c .before .before .before .before .before .before .before in
     let r = h .before .before in
     let f = r .before .before .half-at .ensures in
     idle-rest _ _ _ _ _ _ _ _ _ _ (h .loop .inv .1)
@@ -79,12 +76,12 @@ loop-again : tie.Need-loop-again Inv-loop μ-loop
 loop-again c =
     let t = c .before .before .before .tick in
     let d = c .before .before .before .before .before in
-    let l = d .before .before in
+    let l = d .before in
     let e = l .before .before in
     let r = e .before in
     let start = r .before .before .before .before .before .before in
     let g = l .before .loop .inv .1 in
-    let at = next-count _ _ _ _ _ _ (g .most) (start .pre .1) (search needs) (e .wrapping-add-u32 .ensures) (d .before .lesser .ensures) (d .wrapping-sub-u32 .ensures) in (
+    let at = next-count _ _ _ _ _ (g .most) (start .pre .1) (search needs) (e .wrapping-add-u32 .ensures) (d .wrapping-sub-u32 .ensures) in (
       search needs,
       one-more _ _ _ _ _ _ _ _ _ _ (search (needs, start .fits)) (l .loop-test .taken) at g
           (by-numbers _ _ _ _ _ _ _ _ _ (r .before .before .half-at .ensures) (r .before .half-at2 .ensures) (r .half-at3 .ensures) (t .ensures .0)),
@@ -113,7 +110,6 @@ stretch-spec =
     cast-room
     wrapping-add-u32-requires
     loop-holds
-    lesser-requires
     wrapping-sub-u32-requires
     tick-requires
     same-length
