@@ -146,6 +146,6 @@ cases =
     (bytes 68 (9 ∷ 9 ∷ 9 ∷ 9 ∷ []) ∷ []) 3
     (bytes 64 (0xfe ∷ 0xff ∷ 0xff ∷ 0xff ∷ 0 ∷ 0 ∷ 0 ∷ 0 ∷ []) ∷ bytes 92 (0xff ∷ 0xff ∷ 0xff ∷ 0xff ∷ 12 ∷ 0 ∷ 0 ∷ 0 ∷ []) ∷ []) 1 0
     ∷ runs (bytes 0 (0x0f ∷ 0x08 ∷ 0x00 ∷ 0x00 ∷ []) ∷ []) [] 1 (bytes 64 (0 ∷ []) ∷ bytes 96 (0 ∷ 0 ∷ 2 ∷ 2 ∷ []) ∷ []) 0 1
-    -- every tick counts: two instructions, and eight ticks of partitions that have halted
+    -- every tick counts: three instructions, and seven ticks of partitions that have halted
     ∷ runs (bytes 0 (0x0f ∷ 0x00 ∷ 0x00 ∷ 0x00 ∷ 0x00 ∷ []) ∷ []) [] 10 (bytes 64 (0 ∷ 0 ∷ 0 ∷ 0 ∷ []) ∷ bytes 96 (4 ∷ 0 ∷ 1 ∷ 0 ∷ []) ∷ []) 0 0
     ∷ []
