@@ -1,13 +1,13 @@
 -- The count along ticks and lists, by induction on them; and that ticks which do not fetch 15 do the same at each count.
-use Prim.Native.Nat.{ℕ, zero, suc, _<_, zero-le, suc-le-suc}
-use mathlib.Core.Path.{_≡_, refl, sym, _∙_, ap, ap₂}
+use Prim.Native.Nat.{zero, suc, _<_, zero-le, suc-le-suc}
+use mathlib.Core.Path.{_≡_, sym, _∙_, ap, ap₂}
 use mathlib.Core.Bool.{Bool, true, false, cond}
 use mathlib.Core.List.{List, [], _∷_}
 use native.Mathlib.Omega.{arith}
 use Rattle.policy.specs.View.{View}
 use Rattle.machine.specs.Place.{nextSlot, nextUsed, counts, countAfter}
 use Rattle.machine.specs.Tick.{tickOf}
-use Rattle.machine.specs.Machine.{State, current, seat, next}
+use Rattle.machine.specs.Machine.{State, seat, next}
 use Rattle.machine.specs.Fetches.{Fetches}
 use Rattle.machine.proofs.Laws.Places.{count-none, count-more, count-one, count-below}
 use Rattle.machine.proofs.Count.{tick-unread}

@@ -8,7 +8,7 @@ use lib.Dec.{ltb}
 use borrow.Author.Tests.{lt-ltb, le-ltb, ltb-false}
 use Rattle.policy.specs.Limits.{Limits}
 use Rattle.policy.specs.View.{View}
-use Rattle.policy.specs.Tables.{Tables, viewOf}
+use Rattle.policy.specs.Tables.{viewOf}
 use Rattle.policy.specs.Lawful.{Lawful}
 use Rattle.policy.proofs.Accepted.{sound-lawful}
 use Rattle.machine.specs.declared.Instr.the-variants.{Halt, Set, Add, Sub, And, Xor, Shift, Load, Store, Jump, Wait, Listen, Back, LoadWord, StoreWord, Count}

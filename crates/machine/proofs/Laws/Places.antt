@@ -1,11 +1,11 @@
 -- A tick leaves a place that refusal 13 lets pass, since every slot of a lawful policy has a tick; and the count goes round.
 use Prim.Native.Nat.{ℕ, suc, _+_, _%_, _<_}
-use mathlib.Core.Path.{_≡_, refl, sym, _∙_, ap}
-use mathlib.Core.Bool.{Bool, true, false, _&&_, cond}
+use mathlib.Core.Path.{_≡_, refl, _∙_, ap}
+use mathlib.Core.Bool.{Bool, true, false, cond}
 use native.Mathlib.Nat.{mod-add-mod, mod-eq-of-lt, add-zero}
 use native.Mathlib.Omega.{arith}
 use lib.Dec.{ltb}
-use borrow.Author.Tests.{ltb-true, ltb-false, lt-ltb}
+use borrow.Author.Tests.{ltb-true, lt-ltb}
 use Rattle.policy.specs.Limits.{Limits}
 use Rattle.policy.specs.View.{View}
 use Rattle.policy.specs.Lawful.{Lawful}
