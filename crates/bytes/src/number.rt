@@ -3,6 +3,7 @@ use crate::entry::byte_at;
 use crate::entry::put;
 ghost use mathlib.Core.Path.{_≡_};
 ghost use Prim.Native.Nat.{_+_, _*_, _/_, _%_, _<_, _≤_};
+ghost use lib.ListN.{length};
 ghost use Rattle.bytes.specs.Numbers.{half, word, withHalf, withWord};
 
 fn paired(a: u8, b: u8) -> u16
@@ -50,11 +51,13 @@ fn word_from(s: &[u8], i: usize) -> u32
     )
 }
 
-// A word is named by its register, of four bytes each from 0 on.
-pub fn get_word(s: &[u8], r: u32) -> u32
+// A word is named by its register, of four bytes each from 0 on. It is known to be there, so no byte is tested for.
+pub fn get_word_in(s: &[u8], r: u32) -> u32
+    requires { ⌜ 4 * r + 4 ≤ length (now s) ⌝ }
     ensures { λ x. ⌜ x ≡ word (now (s .entry)) (4 * r) ⌝ }
 {
-    word_from(s, 4 * (r as usize))
+    let i = 4 * (r as usize);
+    joined(s[i], s[i + 1], s[i + 2], s[i + 3])
 }
 
 // A word at any place.
@@ -87,6 +90,18 @@ pub fn put_word(s: &mut [u8], r: u32, n: u32)
     ensures { λ _. ⌜ now (s .exit) ≡ withWord (now (s .entry)) (4 * r) n ⌝ }
 {
     put_word_from(s, 4 * (r as usize), n);
+}
+
+// Known to be there too.
+pub fn put_word_in(s: &mut [u8], r: u32, n: u32)
+    requires { ⌜ 4 * r + 4 ≤ length (now s) ⌝ }
+    ensures { λ _. ⌜ now (s .exit) ≡ withWord (now (s .entry)) (4 * r) n ⌝ }
+{
+    let i = 4 * (r as usize);
+    s[i] = low(n);
+    s[i + 1] = digit(n, 256);
+    s[i + 2] = digit(n, 65536);
+    s[i + 3] = digit(n, 16777216);
 }
 
 pub fn put_word_at(s: &mut [u8], at: u32, n: u32)

@@ -3,4 +3,3 @@ mod number;
 mod scan;
 
 pub use number::digits_at;
-pub use number::room;

@@ -4,7 +4,7 @@ ghost use Rattle.text.specs.Digits.{digitsRead, digitWorth};
 ghost use Rattle.text.specs.Number.{ten, sixteen};
 use text::Digits;
 
-// The decimal digits from a place on.
+// The decimal digits from a place on. The difference wraps around below "0", so that one test tells a digit.
 pub(crate) fn digits_from(text: &[u8], from: usize) -> Digits
     ensures { λ r. ⌜ r ≡ digitsRead ten (now (text .entry)) from ⌝ }
 {
@@ -12,20 +12,21 @@ pub(crate) fn digits_from(text: &[u8], from: usize) -> Digits
     let mut value: u64 = 0;
     while i < text.len() {
         let b = text[i];
-        if (b < b'0') | (b'9' < b) {
+        let d = std::num::wrapping_sub_u32(b as u32, 48);
+        if 9 < d {
             return Digits {
                 value: value as u32,
                 end: i,
                 stop: b,
             };
         }
-        value = (value * 10 + (b - b'0') as u64) % 4294967296;
+        value = (value * 10 + d as u64) % 4294967296;
         i += 1;
     }
     Digits {
         value: value as u32,
         end: i,
-        stop: b'\n',
+        stop: 0,
     }
 }
 
@@ -64,6 +65,6 @@ pub(crate) fn hex_from(text: &[u8], from: usize) -> Digits
     Digits {
         value: value as u32,
         end: i,
-        stop: b'\n',
+        stop: 0,
     }
 }

@@ -3,7 +3,7 @@ mod field;
 mod scan;
 mod word;
 
-pub use field::read_end;
+pub use field::read_inner;
+pub use field::read_last;
 pub use field::read_letters;
-pub use field::read_number;
 pub use word::read_word;

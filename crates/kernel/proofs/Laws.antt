@@ -1,2 +1,3 @@
 pub mod Ticks
 pub mod Reached
+pub mod Turns

@@ -4,11 +4,15 @@ use calls::Outcome;
 use calls::Placed;
 use machine::MOST_TICKS_OF_RUN;
 use machine::Place;
+use parts::get_counter;
+use parts::is_able;
 use policy::MEMORY;
 use policy::Policy;
 use schedule::is_place;
 use schedule::lesser;
-use schedule::move_by;
+use schedule::next_turn;
+use schedule::place_with;
+use schedule::turn_at;
 use tick::tick;
 use validate::passes_test;
 ghost use mathlib.Core.Path.{_≡_};
@@ -26,7 +30,8 @@ ghost use Rattle.calls.specs.Run.{stateOf, afterTicks, runAnswer, afterRun};
 ghost use Rattle.kernel.specs.Stretch.{tickedBy};
 
 // n ticks of the partition with this code, this save segment and these masks, the first at this count. After one that does
-// nothing the others do nothing either, since whether a partition is able does not hang on the count.
+// nothing the others do nothing either, since whether a partition is able does not hang on the count. The counter is read
+// once, and then goes from tick to tick.
 fn stretch<'a>(
     memory: &mut [u8],
     base: &'a [u16],
@@ -51,12 +56,13 @@ fn stretch<'a>(
     let start = half_at(base, code as usize) as usize;
     let room = half_at(size, code as usize) as usize;
     let end = std::num::wrapping_add_u32(count, n);
+    let mut pc = get_counter(memory, from);
     let mut left: u32 = n;
     while 0 < left {
         // From the ticks left, so that the loop carries one number and not two. A slot has at most 1,000, so the remainder
         // is `left`; without it the compiler carries the count all the same.
         let at = std::num::wrapping_sub_u32(end, left % 1024);
-        if !tick(
+        let went = tick(
             memory,
             base,
             size,
@@ -67,9 +73,12 @@ fn stretch<'a>(
             start,
             room,
             at,
-        ) {
+            pc,
+        );
+        if !went.able {
             return;
         }
+        pc = went.pc;
         left -= 1;
     }
 }
@@ -85,33 +94,41 @@ fn run_ticks(policy: Policy, memory: &mut [u8], place: Place, n: u32) -> Place
         ≡ afterTicks (viewOf (tablesOf policy)) n (stateOf (now (memory .entry)) place)
         ⌝ }
 {
-    let mut here = place;
+    let mut turn = turn_at(&policy.ticks, place);
     let mut left: u32 = n;
     while 0 < left {
-        let slot = here.slot as usize;
-        let owner = policy.owner[slot] as usize;
-        let code = policy.code[owner];
+        let slot = turn.slot;
+        let room = turn.left;
+        let owner = policy.owner[slot as usize] as usize;
         let save = policy.save[owner];
-        let reads = policy.reads[owner] as u64;
-        let writes = policy.writes[owner] as u64;
-        let ticks = policy.ticks[slot];
-        let many = lesser(left, ticks as u32 - here.used);
-        stretch(
-            memory,
-            &policy.base,
-            &policy.size,
-            reads,
-            writes,
-            policy.segments,
-            code,
-            save,
-            here.count,
-            many,
-        );
-        here = move_by(here, many, ticks, policy.slots);
-        left -= many;
+        // Asked before all else is looked up: an idle partition needs none of it.
+        if is_able(memory, half_at(&policy.base, save as usize) as usize) {
+            let code = policy.code[owner];
+            let reads = policy.reads[owner] as u64;
+            let writes = policy.writes[owner] as u64;
+            stretch(
+                memory,
+                &policy.base,
+                &policy.size,
+                reads,
+                writes,
+                policy.segments,
+                code,
+                save,
+                std::num::wrapping_add_u32(place.count, n - left),
+                lesser(left, room),
+            );
+        }
+        // A branch, and no choice between two places: the next slot does not wait for the ticks of this one.
+        if left < room {
+            let end = std::num::wrapping_add_u32(place.count, n);
+            return place_with(&policy.ticks, slot, room - left, end);
+        }
+        left -= room;
+        turn = next_turn(&policy.ticks, policy.slots, slot);
     }
-    here
+    let end = std::num::wrapping_add_u32(place.count, n);
+    place_with(&policy.ticks, turn.slot, turn.left, end)
 }
 
 pub fn run(policy: Policy, memory: &mut [u8], place: Place, n: u32) -> Placed

@@ -3,3 +3,4 @@ pub mod Place
 pub mod Lent
 pub mod Thin
 pub mod Answers
+pub mod Once

@@ -1,127 +1,195 @@
-// A whole line, from its first field to its end.
+// A whole line, field by field, by the fields that its record word has; it is left at the first that is malformed.
 ghost use Prim.Native.Nat.{_<_, _≤_};
+ghost use mathlib.Core.Bool.{true, false};
 ghost use mathlib.Core.Path.{_≡_};
 ghost use lib.ListN.{length};
-ghost use Rattle.text.specs.Places.{upTo};
-ghost use Rattle.text.specs.Readers.{fieldsRead, lineRead};
-ghost use Rattle.text.specs.Said.{twoSay, threeSay, restSays, fieldsSay};
+ghost use Rattle.text.specs.Readers.{wordRead, innerRead, lastRead, lettersRead, lineRead};
+ghost use Rattle.text.specs.Rest.{restRead, hasTwo, twoSay, afterFirst};
 use text::Cursor;
-use text::FieldsRead;
 use text::Kind;
 use text::Line;
 use text::LineRead;
 use text::Number;
+use text::NumberRead;
+use text::WordRead;
 
-// The place is lent to one reader after another; which of them found their field is for fields_say to judge. None
-// of them leaves the line.
-fn fields_from(text: &[u8], at: usize, n: u32) -> FieldsRead
-    requires { ⌜ (at ≤ length (now text)) × (n < 4294967295) ⌝ }
-    ensures { λ r. ⌜ r ≡ fieldsRead (now (text .entry)) (upTo (now (text .entry)) at) at n ⌝ }
+// The place is lent in these four alone, each time to one reader; elsewhere it goes by value.
+fn word_from(text: &[u8], c: Cursor) -> WordRead
+    ensures { λ r. ⌜ r ≡ wordRead (now (text .entry)) c ⌝ }
 {
-    let mut c = Cursor { at, line: n };
-    let kind = crate::take::take_word(text, &mut c);
-    let first = crate::take::take_number(text, &mut c);
-    let second = crate::take::take_number(text, &mut c);
-    let letters = crate::take::take_letters(text, &mut c);
-    let third = crate::take::take_number(text, &mut c);
-    let ended = crate::take::take_end(text, &mut c);
-    FieldsRead {
-        kind,
-        first,
-        second,
-        letters,
-        third,
-        ended,
-        next: c,
+    let mut place = c;
+    let kind = crate::take::take_word(text, &mut place);
+    WordRead { kind, next: place }
+}
+
+fn inner_from(text: &[u8], c: Cursor) -> NumberRead
+    ensures { λ r. ⌜ r ≡ innerRead (now (text .entry)) c ⌝ }
+{
+    let mut place = c;
+    let number = crate::take::take_inner(text, &mut place);
+    NumberRead {
+        number,
+        next: place,
     }
 }
 
-// Two numbers and nothing more.
-fn two_say(kind: Kind, a: u32, b: u32) -> Line
+fn last_from(text: &[u8], c: Cursor) -> NumberRead
+    ensures { λ r. ⌜ r ≡ lastRead (now (text .entry)) c ⌝ }
+{
+    let mut place = c;
+    let number = crate::take::take_last(text, &mut place);
+    NumberRead {
+        number,
+        next: place,
+    }
+}
+
+fn letters_from(text: &[u8], c: Cursor) -> NumberRead
+    ensures { λ r. ⌜ r ≡ lettersRead (now (text .entry)) c ⌝ }
+{
+    let mut place = c;
+    let number = crate::take::take_letters(text, &mut place);
+    NumberRead {
+        number,
+        next: place,
+    }
+}
+
+// Whether two numbers are all that stands after the record word.
+fn has_two(kind: Kind) -> bool
+    ensures { λ r. ⌜ r ≡ hasTwo kind ⌝ }
+{
+    match kind {
+        Kind::OfFlow => true,
+        Kind::OfSlot => true,
+        _ => false,
+    }
+}
+
+// What these two say.
+fn pair_says(kind: Kind, a: u32, b: u32) -> Line
+    requires { ⌜ hasTwo kind ≡ true ⌝ }
     ensures { λ r. ⌜ r ≡ twoSay kind a b ⌝ }
 {
     match kind {
         Kind::OfFlow => Line::Flow { from: a, to: b },
-        Kind::OfSlot => Line::Slot {
+        _ => Line::Slot {
             partition: a,
             ticks: b,
         },
-        _ => Line::Bad,
     }
 }
 
-// Three numbers.
-fn three_say(kind: Kind, a: u32, b: u32, c: u32) -> Line
-    ensures { λ r. ⌜ r ≡ threeSay kind a b c ⌝ }
+// The rest of a line after its first number: one more number and the line's end.
+fn pair_from(text: &[u8], c: Cursor, kind: Kind, a: u32) -> LineRead
+    requires { ⌜ (hasTwo kind ≡ true) × (c .line < 4294967295) ⌝ }
+    ensures { λ r. ⌜ r ≡ restRead (afterFirst kind a) (now (text .entry)) c ⌝ }
 {
+    let bad = LineRead {
+        line: Line::Bad,
+        next: Cursor { at: 0, line: 0 },
+    };
+    let r = last_from(text, c);
+    let number = r.number;
+    let Number::Value(b) = number else {
+        return bad;
+    };
+    LineRead {
+        line: pair_says(kind, a, b),
+        next: Cursor {
+            at: r.next.at,
+            line: c.line + 1,
+        },
+    }
+}
+
+// The same of a line with three fields after its record word, the last of them a number or the letters of a right.
+fn triple_from(text: &[u8], c: Cursor, kind: Kind, a: u32) -> LineRead
+    requires { ⌜ (hasTwo kind ≡ false) × (c .line < 4294967295) ⌝ }
+    ensures { λ r. ⌜ r ≡ restRead (afterFirst kind a) (now (text .entry)) c ⌝ }
+{
+    let bad = LineRead {
+        line: Line::Bad,
+        next: Cursor { at: 0, line: 0 },
+    };
+    let q = inner_from(text, c);
+    let second = q.number;
+    let Number::Value(b) = second else {
+        return bad;
+    };
     match kind {
-        Kind::OfSegment => Line::Segment {
-            id: a,
-            base: b,
-            size: c,
-        },
-        Kind::OfPartition => Line::Partition {
-            id: a,
-            code: b,
-            save: c,
-        },
-        _ => Line::Bad,
-    }
-}
-
-// What stands after the two numbers decides, with the record word: letters and nothing after them, a third number, or
-// nothing.
-fn rest_says(kind: Kind, a: u32, b: u32, letters: Number, third: Number) -> Line
-    ensures { λ r. ⌜ r ≡ restSays kind a b letters third ⌝ }
-{
-    match letters {
-        Number::Value(mode) => match third {
-            Number::Value(_) => Line::Bad,
-            Number::Malformed => match kind {
-                Kind::OfRight => Line::Right {
+        Kind::OfRight => {
+            let r = letters_from(text, q.next);
+            let third = r.number;
+            let Number::Value(d) = third else {
+                return bad;
+            };
+            LineRead {
+                line: Line::Right {
                     partition: a,
                     segment: b,
-                    mode,
+                    mode: d,
                 },
-                _ => Line::Bad,
-            },
-        },
-        Number::Malformed => match third {
-            Number::Value(c) => three_say(kind, a, b, c),
-            Number::Malformed => two_say(kind, a, b),
-        },
+                next: Cursor {
+                    at: r.next.at,
+                    line: c.line + 1,
+                },
+            }
+        }
+        Kind::Unknown => bad,
+        _ => {
+            let r = last_from(text, q.next);
+            let third = r.number;
+            let Number::Value(d) = third else {
+                return bad;
+            };
+            match kind {
+                Kind::OfSegment => LineRead {
+                    line: Line::Segment {
+                        id: a,
+                        base: b,
+                        size: d,
+                    },
+                    next: Cursor {
+                        at: r.next.at,
+                        line: c.line + 1,
+                    },
+                },
+                _ => LineRead {
+                    line: Line::Partition {
+                        id: a,
+                        code: b,
+                        save: d,
+                    },
+                    next: Cursor {
+                        at: r.next.at,
+                        line: c.line + 1,
+                    },
+                },
+            }
+        }
     }
 }
 
-// The line that fields say, if it ends after them.
-fn fields_say(f: FieldsRead) -> Line
-    ensures { λ r. ⌜ r ≡ fieldsSay f ⌝ }
-{
-    let ended = f.ended;
-    if !ended {
-        return Line::Bad;
-    }
-    let first = f.first;
-    let Number::Value(a) = first else {
-        return Line::Bad;
-    };
-    let second = f.second;
-    let Number::Value(b) = second else {
-        return Line::Bad;
-    };
-    let kind = f.kind;
-    let letters = f.letters;
-    let third = f.third;
-    rest_says(kind, a, b, letters, third)
-}
-
-// The line at a place of a text: what it says, Bad also where it has no end, and the place after it.
+// The line at a place of a text: what it says, Bad also where it has no end, and the place after it. Every kind has a
+// number first, so it is read before the record word is judged.
 pub fn line_from(text: &[u8], at: usize, n: u32) -> LineRead
     requires { ⌜ (at ≤ length (now text)) × (n < 4294967295) ⌝ }
     ensures { λ r. ⌜ r ≡ lineRead (now (text .entry)) at n ⌝ }
 {
-    let f = fields_from(text, at, n);
-    let line = fields_say(f);
-    let next = f.next;
-    LineRead { line, next }
+    let bad = LineRead {
+        line: Line::Bad,
+        next: Cursor { at: 0, line: 0 },
+    };
+    let w = word_from(text, Cursor { at, line: n });
+    let p = inner_from(text, w.next);
+    let first = p.number;
+    let Number::Value(a) = first else {
+        return bad;
+    };
+    let kind = w.kind;
+    if has_two(kind) {
+        return pair_from(text, p.next, kind, a);
+    }
+    triple_from(text, p.next, kind, a)
 }

@@ -53,11 +53,16 @@ pub fn key_of(line: Line) -> Key
 fn falls(before: Key, kind: u8, first: u32, second: u32) -> bool
     ensures { λ r. ⌜ r ≡ eqb (before .kind) kind && not (ascends before first second) ⌝ }
 {
-    let same = before.kind == kind;
-    let above = before.first < first;
-    let level = before.first == first;
-    let further = before.second < second;
-    same & !(above | (level & further))
+    if before.kind != kind {
+        return false;
+    }
+    if before.first < first {
+        return false;
+    }
+    if first < before.first {
+        return true;
+    }
+    second <= before.second
 }
 
 pub(crate) fn out_of_order(before: Key, segments: u8, partitions: u8, line: Line) -> bool

@@ -1,7 +1,7 @@
-// What each instruction does to the bytes of a save segment, lent as `&mut [u8]`: all of it but for loads and stores.
-// Every function is total.
+// What each instruction does to the bytes of a save segment, lent as `&mut [u8]`: all of it but for loads and stores. Each
+// is handed the counter, and hands back the counter after it; the bytes hold it too.
 use bytes::get_half;
-use bytes::get_word;
+use bytes::get_word_in;
 use bytes::put;
 use bytes::put_half;
 use machine::Fault;
@@ -19,8 +19,12 @@ use savearea::layout::STATE;
 use savearea::layout::WAITING;
 use savearea::put_result;
 ghost use mathlib.Core.Path.{_≡_};
-ghost use Prim.Native.Nat.{_+_, _-_, _%_};
+ghost use Prim.Native.Nat.{_+_, _-_, _%_, _≤_, _<_};
+ghost use lib.ListN.{length};
+ghost use Rattle.policy.specs.Limits.{saveSize};
+ghost use Rattle.machine.specs.Save.{counter};
 ghost use Rattle.machine.specs.Local.{jumps, waits, comesBack, actsOn};
+ghost use Rattle.savearea.specs.Named.{Named};
 
 // The library says of a difference what it sums to; this says what it is.
 fn minus(x: u32, y: u32) -> u32
@@ -29,78 +33,90 @@ fn minus(x: u32, y: u32) -> u32
     std::num::wrapping_sub_u32(x, y)
 }
 
-fn jump(s: &mut [u8], a: u32, n: u32)
-    ensures { λ _. ⌜ now (s .exit) ≡ jumps (now (s .entry)) a n ⌝ }
+fn jump(s: &mut [u8], a: u32, n: u32, pc: u16) -> u16
+    requires { ⌜ (pc ≡ counter (now s)) × (saveSize ≤ length (now s)) × (a < 8) ⌝ }
+    ensures { λ r. ⌜ (now (s .exit) ≡ jumps (now (s .entry)) a n) × (r ≡ counter (now (s .exit))) ⌝ }
 {
-    if get_word(s, a) == 0 {
-        advance(s);
+    if get_word_in(s, a) == 0 {
+        advance(s, pc)
     } else {
         put_half(s, COUNTER, n);
+        (n % 65536) as u16
     }
 }
 
-fn wait(s: &mut [u8])
-    ensures { λ _. ⌜ now (s .exit) ≡ waits (now (s .entry)) ⌝ }
+fn wait(s: &mut [u8], pc: u16) -> u16
+    requires { ⌜ (pc ≡ counter (now s)) × (saveSize ≤ length (now s)) ⌝ }
+    ensures { λ r. ⌜ (now (s .exit) ≡ waits (now (s .entry))) × (r ≡ counter (now (s .exit))) ⌝ }
 {
     if in_handler(s) {
         fault(s, Fault::WrongHandler);
+        pc
     } else {
-        advance(s);
+        let next = advance(s, pc);
         put(s, STATE, WAITING);
+        next
     }
 }
 
-fn back(s: &mut [u8])
-    ensures { λ _. ⌜ now (s .exit) ≡ comesBack (now (s .entry)) ⌝ }
+fn back(s: &mut [u8], pc: u16) -> u16
+    requires { ⌜ (pc ≡ counter (now s)) × (saveSize ≤ length (now s)) ⌝ }
+    ensures { λ r. ⌜ (now (s .exit) ≡ comesBack (now (s .entry))) × (r ≡ counter (now (s .exit))) ⌝ }
 {
     if in_handler(s) {
-        let to = get_half(s, RETURN) as u32;
-        put_half(s, COUNTER, to);
+        let to = get_half(s, RETURN);
+        put_half(s, COUNTER, to as u32);
         put(s, IN_HANDLER, 0);
+        to
     } else {
         fault(s, Fault::WrongHandler);
+        pc
     }
 }
 
 // One instruction at a count of ticks; a load or a store, which are lent more than these bytes, changes nothing here.
-pub fn act(s: &mut [u8], count: u32, i: Instr)
-    ensures { λ _. ⌜ now (s .exit) ≡ actsOn (now (s .entry)) count i ⌝ }
+pub fn act(s: &mut [u8], count: u32, pc: u16, i: Instr) -> u16
+    requires { ⌜ (pc ≡ counter (now s)) × (saveSize ≤ length (now s)) × Named i ⌝ }
+    ensures { λ r. ⌜ (now (s .exit) ≡ actsOn (now (s .entry)) count i) × (r ≡ counter (now (s .exit))) ⌝ }
 {
     match i {
-        Instr::Halt => put(s, STATE, HALTED),
-        Instr::Set(a, n) => put_result(s, a, n),
+        Instr::Halt => {
+            put(s, STATE, HALTED);
+            pc
+        }
+        Instr::Set(a, n) => put_result(s, a, n, pc),
         Instr::Add(a, b, c) => {
-            let x = std::num::wrapping_add_u32(get_word(s, b), get_word(s, c));
-            put_result(s, a, x);
+            let x = std::num::wrapping_add_u32(get_word_in(s, b), get_word_in(s, c));
+            put_result(s, a, x, pc)
         }
         Instr::Sub(a, b, c) => {
-            let x = minus(get_word(s, b), get_word(s, c));
-            put_result(s, a, x);
+            let x = minus(get_word_in(s, b), get_word_in(s, c));
+            put_result(s, a, x, pc)
         }
         Instr::And(a, b, c) => {
-            let x = get_word(s, b) & get_word(s, c);
-            put_result(s, a, x);
+            let x = get_word_in(s, b) & get_word_in(s, c);
+            put_result(s, a, x, pc)
         }
         Instr::Xor(a, b, c) => {
-            let x = get_word(s, b) ^ get_word(s, c);
-            put_result(s, a, x);
+            let x = get_word_in(s, b) ^ get_word_in(s, c);
+            put_result(s, a, x, pc)
         }
         Instr::Shift(a, b, c) => {
-            let x = get_word(s, b) >> (get_word(s, c) % 32);
-            put_result(s, a, x);
+            let x = get_word_in(s, b) >> (get_word_in(s, c) % 32);
+            put_result(s, a, x, pc)
         }
-        Instr::Load(_, _, _) => {}
-        Instr::Store(_, _, _) => {}
-        Instr::Jump(a, n) => jump(s, a, n),
-        Instr::Wait => wait(s),
+        Instr::Load(_, _, _) => pc,
+        Instr::Store(_, _, _) => pc,
+        Instr::Jump(a, n) => jump(s, a, n, pc),
+        Instr::Wait => wait(s, pc),
         Instr::Listen(a, n) => {
             put(s, ENABLED, a);
             put_half(s, HANDLER, n);
-            advance(s);
+            advance(s, pc)
         }
-        Instr::Back => back(s),
-        Instr::LoadWord(_, _, _) => {}
-        Instr::StoreWord(_, _, _) => {}
-        Instr::Count(a) => put_result(s, a, count),
+        Instr::Back => back(s, pc),
+        Instr::LoadWord(_, _, _) => pc,
+        Instr::StoreWord(_, _, _) => pc,
+        Instr::Count(a) => put_result(s, a, count, pc),
     }
 }

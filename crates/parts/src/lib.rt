@@ -2,7 +2,7 @@
 // that part alone, which is lent.
 use bytes::byte_at;
 use bytes::get_half;
-use bytes::get_word;
+use bytes::get_word_in;
 use bytes::low;
 use bytes::put;
 use bytes::put_word_at;
@@ -22,7 +22,7 @@ ghost use Rattle.machine.specs.Bytes.{part, digits};
 ghost use Rattle.machine.specs.Save.{register, counter, due};
 ghost use Rattle.machine.specs.Faults.{faults};
 ghost use Rattle.machine.specs.Decode.{lastOpcode, fetched};
-ghost use Rattle.machine.specs.Local.{takesInterrupt, interrupted, isReady};
+ghost use Rattle.machine.specs.Local.{takesInterrupt, interrupted, isReady, isAble};
 ghost use Rattle.parts.specs.Parts.{savedAt, withSaved, loadedFrom, storedTo};
 
 pub fn fault(memory: &mut [u8], from: usize, f: Fault)
@@ -38,11 +38,11 @@ pub fn fault(memory: &mut [u8], from: usize, f: Fault)
 }
 
 fn get_register(memory: &[u8], from: usize, r: u32) -> u32
-    requires { ⌜ from + saveSize ≤ length (now memory) ⌝ }
+    requires { ⌜ (from + saveSize ≤ length (now memory)) × (r < 8) ⌝ }
     ensures { λ x. ⌜ x ≡ register (savedAt (now (memory .entry)) from) r ⌝ }
 {
     let to = from + SAVE_SIZE;
-    get_word(&memory[from..to], r)
+    get_word_in(&memory[from..to], r)
 }
 
 pub fn get_counter(memory: &[u8], from: usize) -> u16
@@ -69,8 +69,20 @@ pub fn takes_interrupt(memory: &[u8], from: usize) -> bool
     savearea::takes_interrupt(&memory[from..to])
 }
 
-pub fn interrupt(memory: &mut [u8], from: usize)
+// Whether a tick would do something.
+pub fn is_able(memory: &[u8], from: usize) -> bool
+    requires { ⌜ from + saveSize ≤ length (now memory) ⌝ }
+    ensures { λ x. ⌜ x ≡ isAble (savedAt (now (memory .entry)) from) ⌝ }
+{
+    if takes_interrupt(memory, from) {
+        return true;
+    }
+    is_ready(memory, from)
+}
+
+pub fn interrupt(memory: &mut [u8], from: usize, pc: u16)
     requires { ⌜ (from + saveSize ≤ length (now memory)) × (0 < due (savedAt (now memory) from)) ⌝ }
+    requires { ⌜ pc ≡ counter (savedAt (now memory) from) ⌝ }
     ensures { λ _.
         ⌜
         now (memory .exit)
@@ -78,7 +90,7 @@ pub fn interrupt(memory: &mut [u8], from: usize)
         ⌝ }
 {
     let to = from + SAVE_SIZE;
-    savearea::interrupt(&mut memory[from..to]);
+    savearea::interrupt(&mut memory[from..to], pc);
 }
 
 // The instruction at a place of the code segment.
@@ -106,77 +118,129 @@ fn store_word_at(memory: &mut [u8], start: usize, size: usize, at: u32, n: u32)
     put_word_at(&mut memory[start..end], at, n);
 }
 
-// Register a takes the byte at the offset that register b has.
-pub fn load_from(memory: &mut [u8], from: usize, start: usize, size: usize, a: u32, b: u32)
+// Register a takes the byte at the offset that register b has. Like each of the four it is handed the counter, and hands
+// back the counter after it: a fault leaves it.
+pub fn load_from(
+    memory: &mut [u8],
+    from: usize,
+    start: usize,
+    size: usize,
+    a: u32,
+    b: u32,
+    pc: u16,
+) -> u16
     requires { ⌜ (from + saveSize ≤ length (now memory)) × (start + size ≤ length (now memory)) ⌝ }
-    ensures { λ _.
+    requires { ⌜ (pc ≡ counter (savedAt (now memory) from)) × (a < 8) × (b < 8) ⌝ }
+    ensures { λ r.
         ⌜
-        now (memory .exit)
+        (now (memory .exit)
         ≡ withSaved (now (memory .entry)) from
-        (loadedFrom 1 (savedAt (now (memory .entry)) from) (part (now (memory .entry)) start size) size a b)
+        (loadedFrom 1 (savedAt (now (memory .entry)) from) (part (now (memory .entry)) start size) size a b))
+        × (r ≡ counter (savedAt (now (memory .exit)) from))
         ⌝ }
 {
     let at = get_register(memory, from, b) as usize;
     if size <= at {
         fault(memory, from, Fault::OffsetOver);
-        return;
+        return pc;
     }
     let end = start + size;
     let x = byte_at(&memory[start..end], at) as u32;
     let to = from + SAVE_SIZE;
-    savearea::put_result(&mut memory[from..to], a, x);
+    savearea::put_result(&mut memory[from..to], a, x, pc)
 }
 
-// That byte takes register a. The save bytes are put first, as the definition has it; nothing is read between.
-pub fn store_to(memory: &mut [u8], from: usize, start: usize, size: usize, a: u32, b: u32)
+// That byte takes register a. The save bytes are put first, as the definition has it; nothing is read between. The counter
+// is read back, since nothing is known here of where the byte goes.
+pub fn store_to(
+    memory: &mut [u8],
+    from: usize,
+    start: usize,
+    size: usize,
+    a: u32,
+    b: u32,
+    pc: u16,
+) -> u16
     requires { ⌜ (from + saveSize ≤ length (now memory)) × (start + size ≤ length (now memory)) ⌝ }
-    ensures { λ _. ⌜ now (memory .exit) ≡ storedTo 1 (now (memory .entry)) from start size a b ⌝ }
+    requires { ⌜ (pc ≡ counter (savedAt (now memory) from)) × (a < 8) × (b < 8) ⌝ }
+    ensures { λ r.
+        ⌜
+        (now (memory .exit) ≡ storedTo 1 (now (memory .entry)) from start size a b)
+        × (r ≡ counter (savedAt (now (memory .exit)) from))
+        ⌝ }
 {
     let at = get_register(memory, from, b) as usize;
     let x = low(get_register(memory, from, a));
     if at < size {
         let to = from + SAVE_SIZE;
-        savearea::advance(&mut memory[from..to]);
+        savearea::advance(&mut memory[from..to], pc);
         store_at(memory, start, size, at, x);
+        get_counter(memory, from)
     } else {
         fault(memory, from, Fault::OffsetOver);
+        pc
     }
 }
 
 // Register a takes the four bytes from the offset that register b has on. The offset is widened before 4 is added, so that
 // the sum cannot come round.
-pub fn load_word_from(memory: &mut [u8], from: usize, start: usize, size: usize, a: u32, b: u32)
+pub fn load_word_from(
+    memory: &mut [u8],
+    from: usize,
+    start: usize,
+    size: usize,
+    a: u32,
+    b: u32,
+    pc: u16,
+) -> u16
     requires { ⌜ (from + saveSize ≤ length (now memory)) × (start + size ≤ length (now memory)) ⌝ }
-    ensures { λ _.
+    requires { ⌜ (pc ≡ counter (savedAt (now memory) from)) × (a < 8) × (b < 8) ⌝ }
+    ensures { λ r.
         ⌜
-        now (memory .exit)
+        (now (memory .exit)
         ≡ withSaved (now (memory .entry)) from
-        (loadedFrom 4 (savedAt (now (memory .entry)) from) (part (now (memory .entry)) start size) size a b)
+        (loadedFrom 4 (savedAt (now (memory .entry)) from) (part (now (memory .entry)) start size) size a b))
+        × (r ≡ counter (savedAt (now (memory .exit)) from))
         ⌝ }
 {
     let at = get_register(memory, from, b);
     if size < (at as usize) + 4 {
         fault(memory, from, Fault::OffsetOver);
-        return;
+        return pc;
     }
     let end = start + size;
     let x = word_at(&memory[start..end], at);
     let to = from + SAVE_SIZE;
-    savearea::put_result(&mut memory[from..to], a, x);
+    savearea::put_result(&mut memory[from..to], a, x, pc)
 }
 
 // Those four bytes take register a; the save bytes are put first here too.
-pub fn store_word_to(memory: &mut [u8], from: usize, start: usize, size: usize, a: u32, b: u32)
+pub fn store_word_to(
+    memory: &mut [u8],
+    from: usize,
+    start: usize,
+    size: usize,
+    a: u32,
+    b: u32,
+    pc: u16,
+) -> u16
     requires { ⌜ (from + saveSize ≤ length (now memory)) × (start + size ≤ length (now memory)) ⌝ }
-    ensures { λ _. ⌜ now (memory .exit) ≡ storedTo 4 (now (memory .entry)) from start size a b ⌝ }
+    requires { ⌜ (pc ≡ counter (savedAt (now memory) from)) × (a < 8) × (b < 8) ⌝ }
+    ensures { λ r.
+        ⌜
+        (now (memory .exit) ≡ storedTo 4 (now (memory .entry)) from start size a b)
+        × (r ≡ counter (savedAt (now (memory .exit)) from))
+        ⌝ }
 {
     let at = get_register(memory, from, b);
     let x = get_register(memory, from, a);
     if (at as usize) + 4 <= size {
         let to = from + SAVE_SIZE;
-        savearea::advance(&mut memory[from..to]);
+        savearea::advance(&mut memory[from..to], pc);
         store_word_at(memory, start, size, at, x);
+        get_counter(memory, from)
     } else {
         fault(memory, from, Fault::OffsetOver);
+        pc
     }
 }

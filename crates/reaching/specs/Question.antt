@@ -10,8 +10,7 @@ use Rattle.text.specs.declared.line.Number.the-variants.{Value, Malformed}
 use Rattle.text.specs.declared.read.NumberRead.{NumberRead}
 use Rattle.text.specs.Bytes.{bytesOf}
 use Rattle.text.specs.Cut.{tab, lineEnd}
-use Rattle.text.specs.Places.{upTo}
-use Rattle.text.specs.Readers.{numberRead}
+use Rattle.text.specs.Readers.{innerRead, lastRead}
 use Rattle.policy.specs.Asked.{askedNumber, isAnswered}
 use Rattle.policy.specs.Limits.{Limits}
 use Rattle.policy.specs.Refusals.{isAccepted}
@@ -24,12 +23,12 @@ use Rattle.reach.specs.Answers.{canReachAnswer}
 use Rattle.reach.specs.declared.Answer.{Answer as Question}
 use Rattle.reaching.specs.declared.words.Words.{Words}
 
--- The program's words, each after a tab, are read as the fields of a policy text's line.
+-- The program's words are read as the fields of a policy text's line: a tab behind the first, a line end behind the second.
 abbrev pub firstWord : List ℕ → NumberRead
-firstWord words = numberRead (upTo words 0) (record { at = 0; line = 0 })
+firstWord words = innerRead words (record { at = 0; line = 0 })
 
 abbrev pub nextWord : List ℕ → Cursor → NumberRead
-nextWord words c = numberRead (upTo words (c .at)) c
+nextWord words c = lastRead words c
 
 abbrev pub noWords : Words
 noWords = record { asks = false; from = 0; to = 0 }

@@ -58,8 +58,8 @@ fn put_answer(policy: Policy, from: u32, to: u32, out: &mut [u8]) -> usize
     put_reach(out, from, to, answer.yes)
 }
 
-// Writes the answer about a text to the question that words ask, each after a tab, whatever they are, from the buffer's start on, and
-// answers how many bytes it has.
+// Writes the answer about a text to the question that words ask, as the fields of a line, whatever they are, from the buffer's start
+// on, and answers how many bytes it has.
 pub fn answer_on(text: &[u8], words: &[u8], out: &mut [u8; 3424]) -> usize
     ensures { λ r.
         ⌜

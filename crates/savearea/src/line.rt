@@ -18,7 +18,7 @@ use bytes::put_word;
 ghost use mathlib.Core.Path.{_≡_};
 ghost use Prim.Native.Nat.{_-_, _<_, _^_};
 ghost use lib.Bits.{bitAnd};
-ghost use Rattle.machine.specs.Save.{due};
+ghost use Rattle.machine.specs.Save.{counter, due};
 ghost use Rattle.machine.specs.Local.{takesInterrupt, lowest, interrupted};
 
 // With a line that is pended and enabled, outside a handler, ready or waiting. The lines come first: most ticks have
@@ -57,17 +57,16 @@ fn take_line(pended: u8, enabled: u8) -> Taken
     }
 }
 
-// Every field is read before one is put.
-pub fn interrupt(s: &mut [u8])
-    requires { ⌜ 0 < due (now s) ⌝ }
+// Every field is read before one is put; the counter is handed in, so that no tick reads it from the bytes.
+pub fn interrupt(s: &mut [u8], pc: u16)
+    requires { ⌜ (0 < due (now s)) × (pc ≡ counter (now s)) ⌝ }
     ensures { λ _. ⌜ now (s .exit) ≡ interrupted (now (s .entry)) ⌝ }
 {
-    let from = get_half(s, COUNTER) as u32;
     let handler = get_half(s, HANDLER) as u32;
     let taken = take_line(byte_at(s, PENDED), byte_at(s, ENABLED));
     put(s, PENDED, taken.pended);
     put_word(s, LINE, taken.line);
-    put_half(s, RETURN, from);
+    put_half(s, RETURN, pc as u32);
     put_half(s, COUNTER, handler);
     put(s, IN_HANDLER, 1);
     put(s, STATE, READY);

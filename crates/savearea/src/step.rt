@@ -5,13 +5,15 @@ use crate::layout::FAULTED;
 use crate::layout::IN_HANDLER;
 use crate::layout::STATE;
 use bytes::byte_at;
-use bytes::get_half;
 use bytes::put;
 use bytes::put_half;
-use bytes::put_word;
+use bytes::put_word_in;
 use machine::Fault;
 ghost use mathlib.Core.Path.{_≡_};
-ghost use Rattle.machine.specs.Save.{inHandler};
+ghost use Prim.Native.Nat.{_≤_, _<_};
+ghost use lib.ListN.{length};
+ghost use Rattle.policy.specs.Limits.{saveSize};
+ghost use Rattle.machine.specs.Save.{counter, inHandler};
 ghost use Rattle.machine.specs.Faults.{faultNumber, faults};
 ghost use Rattle.machine.specs.Local.{advanced, resulted};
 
@@ -21,18 +23,22 @@ pub fn in_handler(s: &[u8]) -> bool
     byte_at(s, IN_HANDLER) != 0
 }
 
-pub fn advance(s: &mut [u8])
-    ensures { λ _. ⌜ now (s .exit) ≡ advanced (now (s .entry)) ⌝ }
+// The counter is handed in, and handed back, so that a tick need not read it: what it is worth stands in the save bytes too.
+pub fn advance(s: &mut [u8], pc: u16) -> u16
+    requires { ⌜ (pc ≡ counter (now s)) × (saveSize ≤ length (now s)) ⌝ }
+    ensures { λ r. ⌜ (now (s .exit) ≡ advanced (now (s .entry))) × (r ≡ counter (now (s .exit))) ⌝ }
 {
-    let at = get_half(s, COUNTER) as u32;
-    put_half(s, COUNTER, at + 4);
+    let n = pc as u32 + 4;
+    put_half(s, COUNTER, n);
+    (n % 65536) as u16
 }
 
-pub fn put_result(s: &mut [u8], a: u32, x: u32)
-    ensures { λ _. ⌜ now (s .exit) ≡ resulted (now (s .entry)) a x ⌝ }
+pub fn put_result(s: &mut [u8], a: u32, x: u32, pc: u16) -> u16
+    requires { ⌜ (pc ≡ counter (now s)) × (saveSize ≤ length (now s)) × (a < 8) ⌝ }
+    ensures { λ r. ⌜ (now (s .exit) ≡ resulted (now (s .entry)) a x) × (r ≡ counter (now (s .exit))) ⌝ }
 {
-    put_word(s, a, x);
-    advance(s);
+    put_word_in(s, a, x);
+    advance(s, pc)
 }
 
 fn fault_number(f: Fault) -> u8

@@ -2,7 +2,10 @@
 mod place;
 mod round;
 
+pub use place::Turn;
 pub use place::is_place;
 pub use place::lesser;
-pub use place::move_by;
+pub use place::next_turn;
+pub use place::place_with;
+pub use place::turn_at;
 pub use round::round_ticks;

@@ -4,17 +4,16 @@ pub mod Letters
 pub mod Bools
 pub mod Bytes
 pub mod Cut
-pub mod Fields
 pub mod Ends
+pub mod Stops
 -- Words, numbers and digits at a place.
 pub mod Words
 pub mod Numbers
 pub mod Digits
 pub mod Scan
-pub mod After
--- The readers: what each finds, that the place moves forward and stays on its line, and what the line says.
+pub mod Found
+-- The fields from a place on, the readers' steps along them, that the place moves forward, and the whole line.
+pub mod Fields
 pub mod Readers
 pub mod Forward
-pub mod Within
-pub mod Said
 pub mod Line

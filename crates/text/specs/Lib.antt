@@ -17,5 +17,5 @@ pub mod Places
 pub mod Digits
 -- What each reader finds at its place, and where it leaves the place.
 pub mod Readers
--- What a line says by what the readers found.
-pub mod Said
+-- What is left of a line at a place, after some of its fields.
+pub mod Rest

@@ -5,13 +5,10 @@ mod line;
 mod read;
 
 pub use line::Cursor;
-pub use line::Field;
 pub use line::Kind;
 pub use line::Line;
 pub use line::Number;
 pub use read::Digits;
-pub use read::EndRead;
-pub use read::FieldsRead;
 pub use read::LineRead;
 pub use read::NumberDigits;
 pub use read::NumberRead;

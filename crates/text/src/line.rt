@@ -10,13 +10,6 @@ pub enum Number {
     Malformed,
 }
 
-// What the next field of a line says, with the place after it; Missing also where it says nothing. In definitions
-// alone: the readers answer with a NumberRead.
-pub enum Field {
-    Found(u32, Cursor),
-    Missing,
-}
-
 // What a whole line says: document 01's five kinds, and the line that refusal 2 is for.
 pub enum Line {
     Bad,

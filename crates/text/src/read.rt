@@ -4,7 +4,7 @@ use crate::line::Kind;
 use crate::line::Line;
 use crate::line::Number;
 
-// What digits write, modulo 4,294,967,296, where they end, and the byte there, a line end where the text ends.
+// What digits write, modulo 4,294,967,296, where they end, and the byte there, 0 where the text ends.
 pub struct Digits {
     pub value: u32,
     pub end: usize,
@@ -12,7 +12,7 @@ pub struct Digits {
 }
 
 // The digits of a number: what they write, where they begin, how many there may be, where they end, and whether the
-// field ends there.
+// byte that is to end the field stands there.
 pub struct NumberDigits {
     pub value: u32,
     pub from: usize,
@@ -30,24 +30,6 @@ pub struct WordRead {
 // A number, or the letters of a right.
 pub struct NumberRead {
     pub number: Number,
-    pub next: Cursor,
-}
-
-// Whether the line ends.
-pub struct EndRead {
-    pub ended: bool,
-    pub next: Cursor,
-}
-
-// What stands in a line, by the readers' order: every line has the record word and two numbers, then letters, a number
-// or nothing, and the line end. `next` is where the last reader leaves the place.
-pub struct FieldsRead {
-    pub kind: Kind,
-    pub first: Number,
-    pub second: Number,
-    pub letters: Number,
-    pub third: Number,
-    pub ended: bool,
     pub next: Cursor,
 }
 

@@ -94,20 +94,23 @@ pub fn run(policy: &Policy, memory: &mut [u8], place: Place, ticks: u32) -> RunR
         return RunResult { number: 14, place };
     }
     let (mut slot, mut used, mut count, mut left) = (place.slot as usize, place.used, place.count, ticks);
-    while left > 0 {
-        let whole = u32::from(policy.slot_ticks[slot]);
-        let now = left.min(whole - used);
-        let view = View::new(policy, policy.slot_partition[slot] as usize);
-        view.ticks(memory, count, now);
-        count = count.wrapping_add(now);
-        left -= now;
-        used += now;
-        if used == whole {
-            used = 0;
-            slot = if slot + 1 < policy.slots as usize { slot + 1 } else { 0 };
+    loop {
+        let (room, partition) = (u32::from(policy.slot_ticks[slot & 31]) - used, policy.slot_partition[slot & 31] as usize & 7);
+        // The least is itself, as the record is sound; so the compiler knows that the save bytes are in memory.
+        let save = (policy.base[policy.save[partition] as usize & 31] as usize).min(MEMORY - 44);
+        // Before all else is looked up: an idle partition needs none of it.
+        if memory[save + 34] == 0 || memory[save + 36] & memory[save + 37] != 0 {
+            View::new(policy, partition, save).ticks(memory, count, left.min(room));
         }
+        // A branch, and no choice between numbers: the next slot does not wait for what is left.
+        if left < room {
+            return RunResult { number: 0, place: Place { slot: slot as u32, used: used + left, count: count.wrapping_add(left) } };
+        }
+        count = count.wrapping_add(room);
+        left -= room;
+        used = 0;
+        slot = if slot + 1 < policy.slots as usize { slot + 1 } else { 0 };
     }
-    RunResult { number: 0, place: Place { slot: slot as u32, used, count } }
 }
 
 /// What a tick of one partition needs of the policy.
@@ -121,11 +124,11 @@ struct View<'p> {
 }
 
 impl<'p> View<'p> {
-    fn new(policy: &'p Policy, partition: usize) -> View<'p> {
-        let code = policy.code[partition] as usize;
+    fn new(policy: &'p Policy, partition: usize, save: usize) -> View<'p> {
+        let code = policy.code[partition] as usize & 31;
         View {
             policy,
-            save: policy.base[policy.save[partition] as usize] as usize,
+            save,
             code: policy.base[code] as usize,
             code_size: policy.size[code] as usize,
             reads: policy.reads[partition],
@@ -140,24 +143,23 @@ impl<'p> View<'p> {
 
     /// Ticks of one slot, the first at this count. The counter is kept beside its bytes, which follow it at each tick.
     #[inline(always)]
-    fn ticks(&self, memory: &mut Memory, count: u32, ticks: u32) {
+    fn ticks(&self, memory: &mut Memory, mut count: u32, ticks: u32) {
+        let end = count.wrapping_add(ticks);
         let mut counter = two(self.save(memory), 32);
-        for i in 0..ticks {
+        while count != end {
             let save = self.save(memory);
-            let state = save[34];
-            let in_handler = save[42] != 0;
-            let lines = save[36] & save[37];
-            if lines != 0 && !in_handler && (state == 0 || state == 3) {
+            let (state, lines) = (save[34], save[36] & save[37]);
+            if lines != 0 && save[42] == 0 && (state == 0 || state == 3) {
                 let line = lines.trailing_zeros();
                 save[36] &= !(1 << line);
                 set_register(save, 7, line);
-                (save[38], save[39]) = (save[32], save[33]);
+                [save[38], save[39]] = counter.to_le_bytes();
                 counter = two(save, 40);
-                (save[32], save[33]) = (save[40], save[41]);
+                [save[32], save[33]] = counter.to_le_bytes();
                 save[42] = 1;
                 save[34] = 0;
             } else if state == 0 {
-                match self.step(memory, counter, in_handler, count.wrapping_add(i)) {
+                match self.step(memory, counter, count) {
                     Ok(next) => {
                         counter = next;
                         let save = self.save(memory);
@@ -174,12 +176,13 @@ impl<'p> View<'p> {
                 // Nothing changes, so nothing will until the slot ends.
                 return;
             }
+            count = count.wrapping_add(1);
         }
     }
 
     /// One instruction, and the counter after it.
     #[inline(always)]
-    fn step(&self, memory: &mut Memory, counter: u16, in_handler: bool, count: u32) -> Result<u16, u8> {
+    fn step(&self, memory: &mut Memory, counter: u16, count: u32) -> Result<u16, u8> {
         if counter as usize + 4 > self.code_size {
             return Err(1);
         }
@@ -187,48 +190,43 @@ impl<'p> View<'p> {
         let [opcode, a, b, c]: [u8; 4] = memory[at..at + 4].try_into().unwrap();
         let n = u16::from_le_bytes([b, c]);
         let save = self.save(memory);
-        let mut next = counter + 4;
+        let three = (a | b | c) < 8;
+        // One arm an opcode, so that one jump leads to it; and the counter after it is worked out past them.
         match opcode {
             0 => {
                 save[34] = 1;
                 return Ok(counter);
             }
             1 if a < 8 => set_register(save, a, u32::from(n)),
-            2..=6 if (a | b | c) < 8 => {
-                let (x, y) = (register(save, b), register(save, c));
-                let value = match opcode {
-                    2 => x.wrapping_add(y),
-                    3 => x.wrapping_sub(y),
-                    4 => x & y,
-                    5 => x ^ y,
-                    _ => x >> (y & 31),
-                };
-                set_register(save, a, value);
-            }
+            2 if three => set_register(save, a, register(save, b).wrapping_add(register(save, c))),
+            3 if three => set_register(save, a, register(save, b).wrapping_sub(register(save, c))),
+            4 if three => set_register(save, a, register(save, b) & register(save, c)),
+            5 if three => set_register(save, a, register(save, b) ^ register(save, c)),
+            6 if three => set_register(save, a, register(save, b) >> (register(save, c) & 31)),
             7 if (a | b) < 8 => self.load::<1>(memory, a, b, c)?,
             8 if (a | b) < 8 => self.store::<1>(memory, a, b, c)?,
             9 if a < 8 => {
                 if register(save, a) != 0 {
-                    next = n;
+                    return Ok(n);
                 }
             }
-            10 if in_handler => return Err(5),
+            10 if save[42] != 0 => return Err(5),
             10 => save[34] = 3,
             11 => {
                 save[37] = a;
                 (save[40], save[41]) = (b, c);
             }
-            12 if !in_handler => return Err(5),
+            12 if save[42] == 0 => return Err(5),
             12 => {
-                next = two(save, 38);
                 save[42] = 0;
+                return Ok(two(save, 38));
             }
             13 if (a | b) < 8 => self.load::<4>(memory, a, b, c)?,
             14 if (a | b) < 8 => self.store::<4>(memory, a, b, c)?,
             15 if a < 8 => set_register(save, a, count),
             _ => return Err(2),
         }
-        Ok(next)
+        Ok(counter + 4)
     }
 
     #[inline(always)]

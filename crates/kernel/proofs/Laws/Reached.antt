@@ -1,6 +1,6 @@
 -- What a Run has reached after some ticks: the state of so many ticks, and one that stands. A stretch of the present slot's partition and a move of
 -- the place reach as many ticks more, since that is what so many of the machine's ticks are.
-use Prim.Native.Nat.{ℕ, zero, suc, _+_, _-_, _≤_, _<_, min}
+use Prim.Native.Nat.{ℕ, zero, suc, _+_, _≤_, _<_}
 use mathlib.Core.Path.{_≡_, refl, sym, _∙_, ap}
 use mathlib.Core.Bool.{true}
 use mathlib.Core.List.{List}
@@ -69,12 +69,7 @@ module _ (limits : Limits) (t : Tables) (sound : soundOf limits t ≡ true) (x :
   pub used-in : here .used < getD (t .slots .ticks) (here .slot) 0
   used-in = used-below (viewOf t) here (r .stands .placed)
 
-  -- As many ticks as are left to a Run and to the slot.
-  pub many-in : (left many : ℕ) → 0 < left → many ≡ min left (getD (t .slots .ticks) (here .slot) 0 - here .used)
-      → (0 < many) × (here .used + many ≤ getD (t .slots .ticks) (here .slot) 0) × (many ≤ left)
-  many-in left many some e = omega (arith, used-in)
-
-  pub many-few : (many : ℕ) → here .used + many ≤ getD (t .slots .ticks) (here .slot) 0 → many ≤ mostTicks
+  pub many-few : (many : ℕ) → here .used + many ≤ getD (t .slots .ticks) (here .slot) 0 → here .used + many ≤ mostTicks
   many-few many h = omega (arith, w .ticks-most (here .slot) slot-in)
 
   pub slot-below : here .slot < limits .slots

@@ -54,7 +54,7 @@ module _ (S : Seat) (code save : ℕ) where
       let s = part m (S .base save) 44 in
       rw (or-left (takesInterrupt s) (isReady s) e, or-right (takesInterrupt s) (isReady s) e)
 
-  idle-ticks : (c n : ℕ) (m : List ℕ) → Idle m → tickedBy S code save c n m ≡ m
+  pub idle-ticks : (c n : ℕ) (m : List ℕ) → Idle m → tickedBy S code save c n m ≡ m
   unfolding tickedBy
   idle-ticks c zero m e = refl
   idle-ticks c (suc n) m e = rw (idle-tick c m e) (idle-ticks (countAfter 1 c) n m e)

@@ -67,11 +67,18 @@ pub record Answers : Type 2 where
       → T (hasTy (tyStruct g-name (tcons x-mir (tcons P′.mir tnil))) w) × WT w
   pub x-typed : {M : Type 1} (𝓤 : URA M) (H : Heap 𝓤) (A : Atoms 𝓤) → Given 𝓤 H A → (x : X .Denot) (w : Val) → Is X x (w ∷ [])
       → T (hasTy x-mir w) × WT w
-  -- an answer owns only facts
+  -- an answer and a place make a G, whose machine value is made of theirs
+  pub both : X .Denot → Cursor → G .Denot
+  pub both-same : (r : G .Denot) → both (answer r) (next r) ≡ r
+  pub both-is : (x : X .Denot) (c : Cursor) → Is X x (val x ∷ []) → Is P.the-row c (low c ∷ [])
+      → Is G (both x c) (vstruct (vcons (val x) (vcons (low c) vnil)) ∷ [])
+  pub x-spelled : (x : X .Denot) (w : Val) → Is X x (w ∷ []) → w ≡ val x
+  -- an answer, and a G, own only facts
   pub x-makes : {M : Type 1} (𝓤 : URA M) (H : Heap 𝓤) (A : Atoms 𝓤) → Given 𝓤 H A → Makes 𝓤 H A X (Is X)
+  pub g-makes : {M : Type 1} (𝓤 : URA M) (H : Heap 𝓤) (A : Atoms 𝓤) → Given 𝓤 H A → Makes 𝓤 H A G (Is G)
 
 module _ (N : Answers) where
-  abbrev g-mir : Ty
+  abbrev pub g-mir : Ty
   g-mir = tyStruct (N .g-name) (tcons (N .x-mir) (tcons P′.mir tnil))
 
   abbrev pub thin : Name → Fn
@@ -90,7 +97,7 @@ module _ (N : Answers) where
         (seq (assign (place 0 []) (rvOpd (copy (place 3 (field 0 ∷ []))))) return)));
   }
 
-  abbrev coreSignature : Signature
+  abbrev pub coreSignature : Signature
   coreSignature = record {
     lifetimes = 1;
     outlives = [];
@@ -98,14 +105,14 @@ module _ (N : Answers) where
     result = plain (λ _. N .G);
   }
 
-  abbrev coreEnded : Ended
+  abbrev pub coreEnded : Ended
   coreEnded = record { signature = coreSignature; kept = (yes, (yes, tt)) }
 
   abbrev stayed : Stays (endedOf (N .X) .signature .params) (endedOf (N .X) .kept)
   stayed = (stay-none-slice (0 ∷ []) tt (plain (λ _. u8)) yes, (stay-ref (1 ∷ []) tt (plain (λ _. P.the-row)), tt))
 
   module _ {M : Type 1} (𝓤 : URA M) (H : Heap 𝓤) (A : Atoms 𝓤) (Asks : Cursor → SProp 𝓤) (reads : List ℕ → Cursor → N .G .Denot) where
-    abbrev coreClauses : Clauses 𝓤 coreEnded
+    abbrev pub coreClauses : Clauses 𝓤 coreEnded
     coreClauses κs a = record {
       ghost = Unit {0};
       requires = λ _. Asks (a .1 .0);

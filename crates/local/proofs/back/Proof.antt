@@ -1,5 +1,9 @@
--- The test on the in-handler byte picks the same side as the definition.
+-- The test on the in-handler byte picks the same side as the definition; that byte lies behind the counter.
+use mathlib.Core.Path.{sym, _∙_}
+use native.Mathlib.Omega.{arith}
+use native.Mathlib.Nat.{mod-eq-of-lt}
 use Rattle.machine.specs.Local.{comesBack}
+use Rattle.savearea.proofs.Laws.Counters.{counter-put, counter-behind, counter-faults}
 use borrow.Author.Needs.{needs}
 use Rattle.local.proofs.back.Statement.{statement}
 use Rattle.local.proofs.back.Tie as tie
@@ -10,8 +14,8 @@ in-handler-requires c κs = search needs
 get-half-requires : tie.Need-get-half-requires
 get-half-requires c κs = search needs
 
-cast-to : tie.Need-cast-to
-cast-to c = search needs
+cast-put-half : tie.Need-cast-put-half
+cast-put-half c = search needs
 
 put-half-requires : tie.Need-put-half-requires
 put-half-requires c κs = search needs
@@ -32,12 +36,16 @@ returns c =
     let counter = inside .before .before .before .before in
     let place = counter .before .before in
     let test = place .before .before in
-    rw (
-      ← test .before .in-handler .ensures,
-      test .if1 .taken,
-      inside .put .ensures,
-      counter .put-half .ensures,
-      place .get-half .ensures,
+    let start = test .before .before .before .before in (
+      rw (
+        ← test .before .in-handler .ensures,
+        test .if1 .taken,
+        inside .put .ensures,
+        counter .put-half .ensures,
+        place .get-half .ensures,
+      ),
+      rw (inside .put .ensures, counter .put-half .ensures)
+          (sym (counter-behind _ 42 _ (omega arith) ∙ counter-put _ _ (start .pre .1) ∙ mod-eq-of-lt (search needs))),
     )
 
 same-length-2 : tie.Need-same-length-2
@@ -47,7 +55,9 @@ returns-2 : tie.Need-returns-2
 unfolding comesBack
 returns-2 c =
     let test = c .before .before .before .before in
-    rw (← test .before .in-handler .ensures, test .if1 .left) (c .before .before .fault .ensures)
+    let e = c .before .before .fault .ensures in
+    let start = test .before .before .before .before in
+    (rw (← test .before .in-handler .ensures, test .if1 .left) e, rw e (start .pre .0 ∙ sym (counter-faults _ _)))
 
 pub back-spec : {M : Type 1} → statement M
 back-spec =
@@ -55,7 +65,7 @@ back-spec =
     (tie.spec
     in-handler-requires
     get-half-requires
-    cast-to
+    cast-put-half
     put-half-requires
     put-requires
     fault-requires

@@ -1,5 +1,8 @@
--- The test on the in-handler byte picks the same side as the definition.
+-- The test on the in-handler byte picks the same side as the definition; the state lies behind the counter.
+use mathlib.Core.Path.{sym, _∙_}
+use native.Mathlib.Omega.{arith}
 use Rattle.machine.specs.Local.{waits}
+use Rattle.savearea.proofs.Laws.Counters.{counter-behind, counter-faults}
 use borrow.Author.Needs.{needs}
 use Rattle.local.proofs.wait.Statement.{statement}
 use Rattle.local.proofs.wait.Tie as tie
@@ -23,7 +26,9 @@ returns : tie.Need-returns
 unfolding waits
 returns c =
     let test = c .before .before .before .before in
-    rw (← test .before .in-handler .ensures, test .if1 .taken) (c .before .before .fault .ensures)
+    let e = c .before .before .fault .ensures in
+    let start = test .before .before .before .before in
+    (rw (← test .before .in-handler .ensures, test .if1 .taken) e, rw e (start .pre .0 ∙ sym (counter-faults _ _)))
 
 same-length-2 : tie.Need-same-length-2
 same-length-2 c = search needs
@@ -33,8 +38,10 @@ unfolding waits
 returns-2 c =
     let put = c .before .before in
     let advance = put .before .before .before .before in
-    let test = advance .before .before in
-    rw (← test .before .in-handler .ensures, test .if1 .left, put .put .ensures, advance .advance .ensures)
+    let test = advance .before .before in (
+      rw (← test .before .in-handler .ensures, test .if1 .left, put .put .ensures, advance .advance .ensures .0),
+      rw (put .put .ensures) (advance .advance .ensures .1 ∙ sym (counter-behind _ 34 _ (omega arith))),
+    )
 
 pub wait-spec : {M : Type 1} → statement M
 wait-spec =

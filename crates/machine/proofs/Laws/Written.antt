@@ -2,13 +2,14 @@
 use Prim.Native.Nat.{ℕ, zero, suc, _+_, _*_, _^_, _/_, _%_, _≤_, _<_}
 use native.Mathlib.Omega.{arith}
 use native.Mathlib.Numerals.{add-one}
-use native.Mathlib.Nat.{pow-suc}
+use native.Mathlib.Nat.{pow-suc, mod-eq-of-lt}
 use mathlib.Core.Path.{_≡_, sym, _∙_, ap}
 use mathlib.Core.Logic.{inl}
 use mathlib.Core.List.{List, _++_}
 use lib.ListN.{length, getD, set, take, drop, length-set, length-take}
 use lib.Seq.{sets, getD-set-same, getD-set-other, take-append-seam, drop-append-seam}
-use Rattle.bytes.specs.Numbers.{half, word, withHalf, withWord}
+use Rattle.bytes.specs.Numbers.{word, withHalf, withWord}
+use Rattle.bytes.proofs.Laws.Halves.{half-put, half-behind-word}
 use Rattle.machine.specs.Bytes.{part, withPart, little, digits}
 use Rattle.machine.specs.Save.{register, counter}
 use Rattle.machine.specs.Local.{advanced, resulted}
@@ -30,16 +31,7 @@ little-written (suc w) n at s fits small =
 pub word-written : (s : List ℕ) (at n : ℕ) → at + 4 ≤ length s → n < 4294967296 → word (withWord s at n) at ≡ n
 word-written s at n fits small = rw (← digits-word s at n, ← little-word) (little-written 4 n at s fits small)
 
-half-written : (s : List ℕ) (at n : ℕ) → at + 2 ≤ length s → n < 65536 → half (withHalf s at n) at ≡ n
-unfolding half withHalf
-half-written s at n fits small =
-    let long = length-set s at (n % 256) in
-    let first : getD (set (set s at (n % 256)) (at + 1) (n / 256 % 256)) at 0 ≡ n % 256 =
-    getD-set-other (set s at (n % 256)) (at + 1) at _ 0 (λ e. omega arith) ∙ getD-set-same s at (n % 256) 0 (omega arith) in
-    let second : getD (set (set s at (n % 256)) (at + 1) (n / 256 % 256)) (at + 1) 0 ≡ n / 256 % 256 = getD-set-same (set s at (n % 256)) (at + 1) _ 0 (omega (arith, long)) in
-    rw (first, second) (omega arith)
-
--- A number of four bytes and a byte behind it, and one of two bytes behind four.
+-- A number of four bytes and a byte behind it.
 word-beside : (s : List ℕ) (at j v : ℕ) → at + 4 ≤ j → word (set s j v) at ≡ word s at
 unfolding word
 word-beside s at j v h =
@@ -49,10 +41,6 @@ word-beside s at j v h =
       getD-set-other s j (at + 2) v 0 (λ e. omega arith),
       getD-set-other s j (at + 3) v 0 (λ e. omega arith),
     )
-
-half-behind : (s : List ℕ) (at j v : ℕ) → j < at → half (set s j v) at ≡ half s at
-unfolding half
-half-behind s at j v h = rw (getD-set-other s j at v 0 (λ e. omega arith), getD-set-other s j (at + 1) v 0 (λ e. omega arith))
 
 module _ (s : List ℕ) (a n : ℕ) (long : length s ≡ 44) (few : a < 8) where
   -- The counter's bytes lie behind the registers.
@@ -64,9 +52,8 @@ module _ (s : List ℕ) (a n : ℕ) (long : length s ≡ 44) (few : a < 8) where
   pub counter-resulted : counter s + 4 < 65536 → counter (resulted s a n) ≡ counter s + 4
   unfolding resulted advanced withWord
   counter-resulted small =
-      let before : counter (withWord s (4 * a) n) ≡ counter s =
-      half-behind _ 32 (4 * a + 3) _ (omega arith) ∙ half-behind _ 32 (4 * a + 2) _ (omega arith) ∙ half-behind _ 32 (4 * a + 1) _ (omega arith) ∙ half-behind _ 32 (4 * a) _ (omega arith) in
-      half-written (withWord s (4 * a) n) 32 (counter (withWord s (4 * a) n) + 4) (simp length-set (omega arith)) (rw before small) ∙ ap (λ c. c + 4) before
+      let before : counter (withWord s (4 * a) n) ≡ counter s = half-behind-word s 32 (4 * a) n (omega arith) in
+      half-put (withWord s (4 * a) n) 32 (counter (withWord s (4 * a) n) + 4) (simp length-set (omega arith)) ∙ rw before (mod-eq-of-lt small)
 
 pub part-put : (m : List ℕ) (a k : ℕ) (ys : List ℕ) → a + k ≤ length m → length ys ≡ k → part (withPart m a k ys) a k ≡ ys
 part-put m a k ys fits long =

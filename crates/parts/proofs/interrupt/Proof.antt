@@ -17,7 +17,7 @@ part-interrupt-end : tie.Need-part-interrupt-end
 part-interrupt-end c = search needs
 
 interrupt-requires : tie.Need-interrupt-requires
-interrupt-requires c κs = rw add-sub-cancel-left (c .before .before .pre .1)
+interrupt-requires c κs = rw add-sub-cancel-left (c .before .before .pre .0 .1, c .before .before .pre .1)
 
 same-length : tie.Need-same-length
 same-length c = search needs

@@ -1,8 +1,10 @@
--- Both registers are read first, the save bytes are put and then the byte, as in `storedTo`.
+-- Both registers are read first, the save bytes are put and then the byte, as in `storedTo`; the counter is read after that.
+use mathlib.Core.Path.{sym, _∙_}
 use native.Mathlib.Nat.{add-sub-cancel-left}
 use borrow.Author.Tests.{lt-ltb, le-ltb}
 use Rattle.machine.proofs.Laws.Numbers.{digits-one, inside-one}
 use Rattle.parts.specs.Parts.{storedTo}
+use Rattle.parts.proofs.Laws.Counters.{counter-fault}
 use borrow.Author.Needs.{needs}
 use Rattle.parts.proofs.store_to.Statement.{statement}
 use Rattle.parts.proofs.store_to.Tie as tie
@@ -32,10 +34,15 @@ part-advance-end : tie.Need-part-advance-end
 part-advance-end c = search needs
 
 advance-requires : tie.Need-advance-requires
-advance-requires c κs = search needs
+advance-requires c κs =
+    let p = c .before .before .before .before .before .before .before .before .pre in
+    (rw add-sub-cancel-left (p .1 .0), search needs)
 
 store-at-requires : tie.Need-store-at-requires
 store-at-requires c κs = search needs
+
+get-counter-requires : tie.Need-get-counter-requires
+get-counter-requires c κs = search needs
 
 fault-requires : tie.Need-fault-requires
 fault-requires c κs = search needs
@@ -46,19 +53,22 @@ same-length c = search needs
 returns : tie.Need-returns
 unfolding storedTo
 returns c =
-    let a = c .before .before .before .before .before .before in
+    let s = c .before .before .before .before in
+    let a = s .before .before .before .before in
     let i = a .before .before in
-    let l = i .before in
-    rw (
-      c .before .before .store-at .ensures,
-      a .advance .ensures,
-      add-sub-cancel-left,
-      l .low .ensures,
-      l .before .get-register2 .ensures,
-      ← l .before .before .before .get-register .ensures,
-      inside-one,
-      lt-ltb _ _ (i .if1 .taken),
-      digits-one,
+    let l = i .before in (
+      rw (
+        s .store-at .ensures,
+        a .advance .ensures .0,
+        add-sub-cancel-left,
+        l .low .ensures,
+        l .before .get-register2 .ensures,
+        ← l .before .before .before .get-register .ensures,
+        inside-one,
+        lt-ltb _ _ (i .if1 .taken),
+        digits-one,
+      ),
+      c .get-counter .ensures,
     )
 
 same-length-2 : tie.Need-same-length-2
@@ -68,7 +78,12 @@ returns-2 : tie.Need-returns-2
 unfolding storedTo
 returns-2 c =
     let i = c .before .before .before .before in
-    rw (c .before .before .fault .ensures, ← i .before .before .before .before .get-register .ensures, inside-one, le-ltb _ _ (i .if1 .left))
+    let e = c .before .before .fault .ensures in
+    let g = i .before .before .before .before in
+    let start = g .before .before .before in (
+      rw (e, ← g .get-register .ensures, inside-one, le-ltb _ _ (i .if1 .left)),
+      rw e (start .pre .1 .0 ∙ sym (counter-fault _ _ (start .pre .0 .0) _)),
+    )
 
 pub store-to-spec : {M : Type 1} → statement M
 store-to-spec =
@@ -84,6 +99,7 @@ store-to-spec =
     part-advance-end
     advance-requires
     store-at-requires
+    get-counter-requires
     fault-requires
     same-length
     returns

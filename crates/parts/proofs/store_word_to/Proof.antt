@@ -1,8 +1,10 @@
--- Both registers are read first, the save bytes are put and then the four bytes, as in `storedTo`.
+-- Both registers are read first, the save bytes are put and then the four bytes, as in `storedTo`; the counter is read after that.
+use mathlib.Core.Path.{sym, _∙_}
 use native.Mathlib.Nat.{add-sub-cancel-left}
 use borrow.Author.Tests.{le-leb, lt-leb}
 use Rattle.machine.specs.Tick.{inSegment}
 use Rattle.parts.specs.Parts.{storedTo}
+use Rattle.parts.proofs.Laws.Counters.{counter-fault}
 use borrow.Author.Needs.{needs}
 use Rattle.parts.proofs.store_word_to.Statement.{statement}
 use Rattle.parts.proofs.store_word_to.Tie as tie
@@ -32,10 +34,15 @@ part-advance-end : tie.Need-part-advance-end
 part-advance-end c = search needs
 
 advance-requires : tie.Need-advance-requires
-advance-requires c κs = search needs
+advance-requires c κs =
+    let p = c .before .before .before .before .before .before .before .pre in
+    (rw add-sub-cancel-left (p .1 .0), search needs)
 
 store-word-at-requires : tie.Need-store-word-at-requires
 store-word-at-requires c κs = search needs
+
+get-counter-requires : tie.Need-get-counter-requires
+get-counter-requires c κs = search needs
 
 fault-requires : tie.Need-fault-requires
 fault-requires c κs = search needs
@@ -46,15 +53,18 @@ same-length c = search needs
 returns : tie.Need-returns
 unfolding storedTo inSegment
 returns c =
-    let a = c .before .before .before .before .before .before in
-    let i = a .before .before in
-    rw (
-      c .before .before .store-word-at .ensures,
-      a .advance .ensures,
-      add-sub-cancel-left,
-      i .before .get-register2 .ensures,
-      ← i .before .before .before .get-register .ensures,
-      le-leb _ _ (i .if1 .taken),
+    let s = c .before .before .before .before in
+    let a = s .before .before .before .before in
+    let i = a .before .before in (
+      rw (
+        s .store-word-at .ensures,
+        a .advance .ensures .0,
+        add-sub-cancel-left,
+        i .before .get-register2 .ensures,
+        ← i .before .before .before .get-register .ensures,
+        le-leb _ _ (i .if1 .taken),
+      ),
+      c .get-counter .ensures,
     )
 
 same-length-2 : tie.Need-same-length-2
@@ -64,7 +74,12 @@ returns-2 : tie.Need-returns-2
 unfolding storedTo inSegment
 returns-2 c =
     let i = c .before .before .before .before in
-    rw (c .before .before .fault .ensures, ← i .before .before .before .get-register .ensures, lt-leb _ _ (i .if1 .left))
+    let e = c .before .before .fault .ensures in
+    let g = i .before .before .before in
+    let start = g .before .before .before in (
+      rw (e, ← g .get-register .ensures, lt-leb _ _ (i .if1 .left)),
+      rw e (start .pre .1 .0 ∙ sym (counter-fault _ _ (start .pre .0 .0) _)),
+    )
 
 pub store-word-to-spec : {M : Type 1} → statement M
 store-word-to-spec =
@@ -80,6 +95,7 @@ store-word-to-spec =
     part-advance-end
     advance-requires
     store-word-at-requires
+    get-counter-requires
     fault-requires
     same-length
     returns

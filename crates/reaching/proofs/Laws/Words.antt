@@ -1,22 +1,22 @@
 -- What two readings of words, one after the other, come to.
-use Prim.Native.Nat.{ℕ, _+_, _<_}
+use Prim.Native.Nat.{ℕ, _+_}
 use mathlib.Core.Path.{_≡_, refl, sym, ap, _∙_}
-use mathlib.Core.Bool.{true}
+use mathlib.Core.Bool.{Bool, true, false, cond}
 use mathlib.Core.List.{List, [], _∷_, _++_}
+use native.Mathlib.Nat.{zero-add}
 use native.Mathlib.Omega.{arith}
-use borrow.Author.Tests.{eq-eqb, ne-eqb, eqb-false, not-true}
+use borrow.Author.Tests.{eq-eqb, ne-eqb}
 use lib.Dec.{eqb}
-use lib.ListN.{length, getD, drop, length-append}
-use lib.Seq.{getD-at, drop-append-add}
+use lib.ListN.{length, drop, length-append}
+use lib.Seq.{drop-append-add}
 use Rattle.text.specs.declared.line.Cursor.{Cursor}
 use Rattle.text.specs.declared.line.Number.{Number}
 use Rattle.text.specs.declared.line.Number.the-variants.{Value, Malformed}
 use Rattle.text.specs.Cut.{tab, lineEnd}
 use Rattle.text.specs.Number.{number}
-use Rattle.text.specs.Places.{unparted, foundAt}
-use Rattle.text.specs.Readers.{takenFrom, numberRead}
-use Rattle.text.proofs.Laws.Ends.{fieldIn, field-nil, field-tab, field-more, after-field}
-use Rattle.policy.proofs.Laws.Tests.{parts}
+use Rattle.text.specs.Places.{unparted}
+use Rattle.text.specs.Readers.{numberFound}
+use Rattle.text.proofs.Laws.Words.{word-read}
 use Rattle.text.specs.declared.read.NumberRead.{NumberRead}
 use Rattle.reaching.specs.Question.{firstWord, nextWord, noWords, bothWords, twoWords, wordsOf}
 
@@ -31,65 +31,34 @@ module _ (words : List ℕ) {a b : NumberRead} (first : a ≡ firstWord words) (
   pub words-both : b .next .at ≡ length words → bothWords (a .number) (b .number) ≡ wordsOf words
   words-both e = rw (eq-eqb (b .next .at) (length words) e) at words-are
 
--- Bytes without tab and line end are a field, in front of a tab and at the end.
-module _ (b : ℕ) (w : List ℕ) (h : unparted (b ∷ w) ≡ true) where
-  no-tab : b ≡ tab → ⊥
-  unfolding unparted
-  no-tab = eqb-false b tab (not-true (eqb b tab) (search parts))
+either : (t : Bool) → cond t noWords noWords ≡ noWords
+either true = refl
+either false = refl
 
-  no-end : b ≡ lineEnd → ⊥
-  unfolding unparted
-  no-end = eqb-false b lineEnd (not-true (eqb b lineEnd) (search parts))
-
-  rest-unparted : unparted w ≡ true
-  unfolding unparted
-  rest-unparted = search parts
-
-field-before : (w later : List ℕ) → unparted w ≡ true → fieldIn (w ++ tab ∷ later) ≡ w
-field-before [] later h = field-tab tab later refl
-field-before (b ∷ w) later h =
-    field-more b (w ++ tab ∷ later) (no-tab b w h) (no-end b w h) ∙ ap (λ l. b ∷ l) (field-before w later (rest-unparted b w h))
-
-field-last : (w : List ℕ) → unparted w ≡ true → fieldIn w ≡ w
-field-last [] h = field-nil
-field-last (b ∷ w) h = field-more b w (no-tab b w h) (no-end b w h) ∙ ap (λ l. b ∷ l) (field-last w (rest-unparted b w h))
-
--- A word after a tab.
-word-is : (words : List ℕ) (c : Cursor) (w : List ℕ) → c .at < length words → getD words (c .at) 0 ≡ tab →
-    fieldIn (drop (c .at + 1) words) ≡ w →
-    nextWord words c ≡ takenFrom (foundAt (number w) (record { at = c .at + 1 + length w; line = c .line })) c
-unfolding numberRead
-word-is words c w h e f =
-    ap (λ r. takenFrom r c)
-    (after-field number words c h (λ q. omega (arith, e))
-    ∙ ap (λ l. foundAt (number l) (record { at = c .at + 1 + length l; line = c .line })) f)
-
--- "numbers are read as in a policy text": of two words without tab and line end, each after a tab.
+-- "numbers are read as in a policy text": of two words without tab and line end, as the fields of a line.
 module _ (from to : List ℕ) (a : unparted from ≡ true) (b : unparted to ≡ true) where
   abbrev words : List ℕ
-  words = tab ∷ from ++ tab ∷ to
+  words = from ++ tab ∷ (to ++ lineEnd ∷ [])
 
   abbrev start : Cursor
   start = record { at = 0; line = 0 }
 
-  first-is : firstWord words ≡ takenFrom (foundAt (number from) (record { at = 0 + 1 + length from; line = 0 })) start
-  first-is = word-is words start from (omega arith) refl (field-before from to a)
-
   abbrev between : Cursor
-  between = record { at = 0 + 1 + length from; line = 0 }
+  between = record { at = 0 + length from + 1; line = 0 }
 
   abbrev behind : Cursor
-  behind = record { at = 0 + 1 + length from + 1 + length to; line = 0 }
+  behind = record { at = 0 + length from + 1 + length to + 1; line = 0 }
 
-  long : length words ≡ 0 + 1 + length from + 1 + length to
-  long = rw length-append (omega arith)
+  long : length words ≡ 0 + length from + 1 + length to + 1
+  long = rw (length-append, length-append) (omega arith)
 
-  second-is : nextWord words between ≡ takenFrom (foundAt (number to) behind) between
+  first-is : firstWord words ≡ numberFound (number from) between start
+  first-is = word-read tab refl number words start from (to ++ lineEnd ∷ []) a refl
+
+  second-is : nextWord words between ≡ numberFound (number to) behind between
   second-is =
-      let q : 0 + 1 + length from + 1 ≡ length (tab ∷ from) + 1 = omega arith in
-      word-is words between to (omega (arith, long))
-      (getD-at (tab ∷ from) tab to 0 (0 + 1 + length from) (omega arith))
-      (ap (λ (n : ℕ). fieldIn (drop n words)) q ∙ ap fieldIn (drop-append-add (tab ∷ from) (tab ∷ to) 1) ∙ field-last to b)
+      word-read lineEnd refl number words between to [] b
+      (ap (λ (n : ℕ). drop (n + 1) words) (zero-add (length from)) ∙ drop-append-add from (tab ∷ (to ++ lineEnd ∷ [])) 1)
 
   pub words-told : wordsOf words ≡ bothWords (number from) (number to)
   words-told = go (number from) refl (number to) refl
@@ -97,7 +66,7 @@ module _ (from to : List ℕ) (a : unparted from ≡ true) (b : unparted to ≡ 
       go : (n : Number) → number from ≡ n → (m : Number) → number to ≡ m → wordsOf words ≡ bothWords n m
       go Malformed e m f =
           let first : record { number = Malformed; next = start } ≡ firstWord words = sym (first-is ∙ rw e) in
-          sym (words-none words first first (λ q. omega (arith, long)))
+          sym (words-are words first refl) ∙ either (eqb (nextWord words start .next .at) (length words))
       go (Value s) e Malformed f =
           let first : record { number = Value s; next = between } ≡ firstWord words = sym (first-is ∙ rw e) in
           let second : record { number = Malformed; next = between } ≡ nextWord words between = sym (second-is ∙ rw f) in

@@ -56,7 +56,7 @@ module _ (text : List ℕ) (tables : Tables) (before : Key) (at n : ℕ) (r : Re
       Reached text (added tables line) (keyOf line) (lineRead text at n .next .at) (lineRead text at n .next .line)
   unfolding readLinesBy
   reached-more h f =
-      let left = line-left text at n (r .within) (not-bad f) in
+      let left = line-left text at n (not-bad f) in
       rw (left .1)
       (record {
         same = r .same ∙ rw (line-next text at h, f, lt-ltb (endAt lineEnd text at) (length text) (left .0));
@@ -66,7 +66,7 @@ module _ (text : List ℕ) (tables : Tables) (before : Key) (at n : ℕ) (r : Re
       })
 
   pub moves-on : isAccepted (lineRefusal single n before (viewOf tables) line) ≡ true → at < lineRead text at n .next .at
-  moves-on f = rw (line-left text at n (r .within) (not-bad f) .1) (omega (arith, end-least lineEnd text at))
+  moves-on f = rw (line-left text at n (not-bad f) .1) (omega (arith, end-least lineEnd text at))
 
   pub stops-end : length text ≤ at → answer single (wholeRefusal (viewOf tables)) tables ≡ readLines single 1 (begun single) (linesOf text)
   unfolding readLinesBy

@@ -20,6 +20,7 @@ use Rattle.policy.proofs.Laws.Bools.{or-left, or-right}
 use Rattle.policy.proofs.Accepted.{fine}
 use Rattle.text.specs.Readers.{lineAt, lineRead}
 use Rattle.text.specs.declared.read.LineRead.{LineRead}
+use Rattle.text.proofs.Laws.Line.{line-says}
 use Rattle.linerules.specs.Parts.{partView, Fits}
 use Rattle.linerules.proofs.Laws.Parts.{part-same}
 use Rattle.readlines.proofs.Laws.Run.{Reached, stops-refused, reached-more, moves-on}
@@ -39,8 +40,7 @@ module _ (text : List ℕ) (tables : Tables) (before : Key) (at n : ℕ) (r : Re
     (tables .segments .size) (tables .partitions .code) (tables .partitions .save))
     (read .line)) where
   same-line : read .line ≡ lineAt text at
-  unfolding lineRead
-  same-line = ap (λ l. l .line) is-read
+  same-line = ap (λ l. l .line) is-read ∙ line-says text at n
 
   same-refusal : refusal ≡ lineRefusal single n before (viewOf tables) (lineAt text at)
   same-refusal = is-refusal ∙ sym (part-same n before tables (read .line)) ∙ ap (lineRefusal single n before (viewOf tables)) same-line

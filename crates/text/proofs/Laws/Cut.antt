@@ -4,13 +4,13 @@ use mathlib.Core.Path.{_≡_, refl, sym, _∙_, ap}
 use mathlib.Core.Bool.{Bool, true, false, cond}
 use mathlib.Core.List.{List, [], _∷_}
 use native.Mathlib.Numerals.{add-one}
-use native.Mathlib.Nat.{add-zero, add-assoc, suc-add, add-sub-cancel-left}
+use native.Mathlib.Nat.{zero-add, add-zero, add-assoc, suc-add, add-sub-cancel-left}
 use native.Mathlib.Omega.{arith}
 use native.Mathlib.Decide.{decLt}
 use borrow.Author.Tests.{lt-ltb, le-ltb, eq-eqb, ne-eqb, eqb-true, eqb-false}
 use lib.Dec.{eqb, ltb, leb·suc-suc}
 use lib.ListN.{length, take, drop, getD, length-drop, drop-of-length-le}
-use lib.Seq.{drop-cons, drop-drop, getD-drop}
+use lib.Seq.{take-nil, drop-cons, drop-drop, getD-drop}
 use Rattle.text.specs.Cut.{cut, onto}
 use Rattle.text.specs.Places.{first, pieceAt, endAt}
 
@@ -33,13 +33,14 @@ module _ (b : ℕ) (s : List ℕ) (i : ℕ) where
   unfolding endAt pieceAt cut
   end-past h = rw (drop-of-length-le s h, add-zero)
 
-  pub end-here : i < length s → getD s i 0 ≡ b → endAt b s i ≡ i
-  unfolding endAt pieceAt cut
-  end-here h e = rw (drop-cons s i 0 h, eq-eqb (getD s i 0) b e, add-zero)
-
   pub end-more : i < length s → (getD s i 0 ≡ b → ⊥) → endAt b s i ≡ endAt b s (i + 1)
   unfolding endAt pieceAt cut
   end-more h d = rw (drop-cons s i 0 h, ne-eqb (getD s i 0) b d, first-onto, add-one) (omega arith)
+
+pub drop-take : (n m : ℕ) (l : List ℕ) → drop n (take (n + m) l) ≡ take m (drop n l)
+drop-take zero m l = rw zero-add
+drop-take (suc n) m [] = rw (take-nil, take-nil)
+drop-take (suc n) m (x ∷ l) = rw suc-add (drop-take n m l)
 
 module _ (b : ℕ) where
   pub piece-within : (l : List ℕ) → length (first (cut b l)) ≤ length l
@@ -77,7 +78,7 @@ module _ (b : ℕ) where
       go false q f zero h e = eqb-false x b q e
       go false q f (suc j) h e = f j (omega (arith, ap length (first-onto x (cut b l)))) e
 
-  piece-stop : (l : List ℕ) → length (first (cut b l)) < length l → getD l (length (first (cut b l))) 0 ≡ b
+  pub piece-stop : (l : List ℕ) → length (first (cut b l)) < length l → getD l (length (first (cut b l))) 0 ≡ b
   unfolding cut
   piece-stop [] h = absurd (omega arith)
   piece-stop (x ∷ l) h = go (eqb x b) refl (piece-stop l) h
@@ -103,7 +104,7 @@ module _ (b : ℕ) where
   onto-next x l [] h = absurd (let z : _≡_ {A = ℕ} 0 1 = cc in omega arith)
   onto-next x l (p ∷ ps) h = rw after-more cc
 
-  cut-next : (l : List ℕ) → cut b l ≡ first (cut b l) ∷ after l (length (first (cut b l)))
+  pub cut-next : (l : List ℕ) → cut b l ≡ first (cut b l) ∷ after l (length (first (cut b l)))
   unfolding cut
   cut-next [] = refl
   cut-next (x ∷ l) = go (eqb x b) (onto-next x l (cut b l) (cut-next l))
@@ -118,10 +119,6 @@ module _ (b : ℕ) where
     pub end-least : at ≤ endAt b s at
     unfolding endAt
     end-least = omega arith
-
-    pub end-most : at ≤ length s → endAt b s at ≤ length s
-    unfolding endAt pieceAt
-    end-most h = omega (arith, piece-within (drop at s), length-drop at s)
 
     -- No separator stands between a place and the end that is found for it, and one stands there.
     pub end-first : (i : ℕ) → at ≤ i → i < endAt b s at → getD s i 0 ≡ b → ⊥
@@ -151,3 +148,26 @@ module _ (b : ℕ) where
         cut b (drop at s) ≡ pieceAt b s at ∷ cond (ltb (endAt b s at) (length s)) (cut b (drop (endAt b s at + 1) s)) []
     unfolding endAt pieceAt
     cut-at = rw (add-assoc, ← ends-inside, ← drop-drop) (cut-next (drop at s))
+
+    -- From a place before that end on, the same end is found, and the rest of the piece.
+    pub end-same : (d : ℕ) → at + d ≤ endAt b s at → endAt b s (at + d) ≡ endAt b s at
+    end-same zero h = rw add-zero
+    end-same (suc d) h = go (decLt (at + d) (length s)) (end-same d (omega arith))
+      where
+        next : at + suc d ≡ at + d + 1
+        next = omega arith
+
+        go : Dec (at + d < length s) → endAt b s (at + d) ≡ endAt b s at → endAt b s (at + suc d) ≡ endAt b s at
+        go (yes k) e =
+            let other = end-first (at + d) (omega arith) (omega arith) in
+            ap (endAt b s) next ∙ sym (end-more b s (at + d) k other) ∙ e
+        go (no k) e = absurd (omega (arith, end-past b s (at + d) (omega arith), e))
+
+  pub piece-rest :
+      (s : List ℕ) (at d : ℕ) → at + d ≤ endAt b s at → drop d (pieceAt b s at) ≡ pieceAt b s (at + d)
+  piece-rest s at d h =
+      let m = endAt b s at - (at + d) in
+      let q : endAt b s at - at ≡ d + m = omega (arith, h) in
+      ap (drop d) (sym (piece-is s at) ∙ ap (λ (k : ℕ). take k (drop at s)) q)
+      ∙ drop-take d m (drop at s)
+      ∙ rw (drop-drop, ← end-same s at d h) (piece-is s (at + d))

@@ -2,23 +2,23 @@
 -- those digits. For every proper notation.
 use Prim.Native.Nat.{ℕ, _+_, _-_, _<_, _≤_}
 use mathlib.Core.Path.{_≡_, refl, sym, _∙_, ap}
-use mathlib.Core.Bool.{Bool, true, false, _||_, cond}
+use mathlib.Core.Bool.{Bool, true, false, _&&_, _||_, cond}
 use mathlib.Core.List.{List, [], _∷_, _++_, append-nil}
 use native.Mathlib.Nat.{add-zero, add-sub-cancel-left}
 use native.Mathlib.Omega.{arith}
-use native.Mathlib.Decide.{decLt}
-use borrow.Author.Tests.{leb-true, lt-ltb, le-ltb, ne-eqb, eqb-true, eqb-false}
-use lib.Dec.{eqb, leb}
+use borrow.Author.Tests.{leb-true}
+use lib.Dec.{eqb, leb, ltb}
 use lib.ListN.{length, drop, getD, length-append, length-drop}
 use lib.Seq.{getD-drop}
 use Rattle.text.proofs.Laws.Bools.{and-left, and-right}
 use Rattle.text.proofs.Laws.Ends.{fieldIn, field-nil, field-tab, field-line, field-more, field-within}
+use Rattle.text.proofs.Laws.Stops.{parts, stopIn, field-none}
 use Rattle.text.proofs.Laws.Numbers.{Proper, zero-is, written-empty, written-long, written-led, written-other}
 use Rattle.text.proofs.Laws.Numbers.{written-is, value-fits}
-use Rattle.text.specs.Digits.{digitsIn, digitsRead, parts}
+use Rattle.text.specs.Digits.{digitsIn, digitsRead}
 use Rattle.text.specs.declared.read.Digits.{Digits}
-use Rattle.text.specs.Cut.{tab, lineEnd}
-use Rattle.text.specs.Number.{Notation, ten, sixteen, zeroToNine, aToF, written, allDigits, valueFrom}
+use Rattle.text.specs.Cut.{lineEnd}
+use Rattle.text.specs.Number.{Notation, ten, sixteen, zeroToNine, aToF, written, allDigits, leadingZero}
 use Rattle.text.specs.declared.line.Number.the-variants.{Value, Malformed}
 
 pub nine : (b : ℕ) → zeroToNine b ≡ true → (0x30 ≤ b) × (b ≤ 0x39)
@@ -35,7 +35,6 @@ proper-ten =
       above = λ b e. omega (arith, nine b e);
       small = λ b e. omega (arith, nine b e);
       some = omega arith;
-      one = omega arith;
       fits = omega arith;
     }
 
@@ -57,7 +56,6 @@ proper-sixteen =
           hex-cases b (λ t. cond t (b - 0x30) (10 + (b - 0x61)) < 16) (λ e. omega (arith, nine b e))
           (λ e. omega (arith, letter b e));
       some = omega arith;
-      one = omega arith;
       fits = omega arith;
     }
 
@@ -87,18 +85,6 @@ module _ (form : Notation) where
 not-empty : (x : ℕ) (l : List ℕ) → 0 < length (fieldIn (x ∷ l)) → fieldIn (x ∷ l) ≡ x ∷ fieldIn l
 not-empty x l h =
     field-more x l (λ e. omega (arith, ap length (field-tab x l e))) (λ e. omega (arith, ap length (field-line x l e)))
-
--- It is empty just if a separator stands there, or nothing.
-parts-is : (l : List ℕ) → parts (getD l 0 lineEnd) ≡ eqb (length (fieldIn l)) 0
-parts-is [] = rw field-nil
-parts-is (x ∷ l) = go (eqb x tab) refl (eqb x lineEnd) refl
-  where
-    go : (t : Bool) → eqb x tab ≡ t → (u : Bool) → eqb x lineEnd ≡ u → t || u ≡ eqb (length (fieldIn (x ∷ l))) 0
-    go true e u f = rw (field-tab x l (eqb-true x tab e))
-    go false e true f = rw (field-line x l (eqb-true x lineEnd f))
-    go false e false f =
-        sym (ne-eqb (length (fieldIn (x ∷ l))) 0
-        (λ q. omega (arith, ap length (field-more x l (eqb-false x tab e) (eqb-false x lineEnd f)))))
 
 module _ (form : Notation) (p : Proper form) where
   -- A digit goes on with the field.
@@ -147,17 +133,9 @@ module _ (form : Notation) (p : Proper form) where
     unfolding digitsRead
     end-is = ap (λ r. r .end) e
 
-    count-is : d .end - from ≡ length digits
-    count-is = rw (end-is, add-sub-cancel-left)
-
-    ended-is : parts (d .stop) ≡ eqb (length left) 0
+    stop-is : d .stop ≡ getD ahead (length digits) 0
     unfolding digitsRead
-    ended-is =
-        let first : getD (drop (length digits) ahead) 0 lineEnd ≡ d .stop =
-        getD-drop (length digits) ahead 0 lineEnd
-        ∙ ap (λ (k : ℕ). getD ahead k lineEnd) (add-zero (length digits))
-        ∙ sym (ap (λ r. r .stop) e) in
-        ap parts (sym first) ∙ parts-is (drop (length digits) ahead)
+    stop-is = ap (λ r. r .stop) e
 
     pub digits-least : from ≤ d .end
     digits-least = omega (arith, end-is)
@@ -172,69 +150,71 @@ module _ (form : Notation) (p : Proper form) where
           length-drop from text,
         )
 
-    pub open-written : parts (d .stop) ≡ false → written form (fieldIn ahead) ≡ Malformed
-    open-written f =
-        let some = eqb-false (length left) 0 (sym ended-is ∙ f) in
-        written-other form (fieldIn ahead) (goes-on ahead (omega arith))
-
-    -- The field ends after them.
-    module _ (f : parts (d .stop) ≡ true) where
+    -- Where nothing of the field is left, it is the digits, and the byte after them ends it.
+    module _ (none : left ≡ []) where
       whole : fieldIn ahead ≡ digits
-      whole = go left (digits-field ahead) (eqb-true (length left) 0 (sym ended-is ∙ f))
-        where
-          go : (m : List ℕ) → fieldIn ahead ≡ digits ++ m → length m ≡ 0 → fieldIn ahead ≡ digits
-          go [] q e = q ∙ append-nil digits
-          go (x ∷ m) q e = absurd (omega arith)
+      whole = digits-field ahead ∙ ap (λ m. digits ++ m) none ∙ append-nil digits
+
+      whole-stop : stopIn ahead ≡ d .stop
+      unfolding stopIn
+      whole-stop = rw (whole, stop-is)
+
+    -- Another byte ends the field than the one after the digits.
+    pub open-written : (stopIn ahead ≡ d .stop → ⊥) → written form (fieldIn ahead) ≡ Malformed
+    open-written f = go left refl
+      where
+        go : (m : List ℕ) → left ≡ m → written form (fieldIn ahead) ≡ Malformed
+        go [] q = absurd (f (whole-stop q))
+        go (x ∷ m) q = written-other form (fieldIn ahead) (goes-on ahead (omega (arith, ap length q)))
+
+    -- The byte after the digits ends a field.
+    module _ (f : parts (d .stop) ≡ true) where
+      nothing : left ≡ []
+      nothing =
+          let first : getD (drop (length digits) ahead) 0 0 ≡ d .stop =
+          getD-drop (length digits) ahead 0 0
+          ∙ ap (λ (k : ℕ). getD ahead k 0) (add-zero (length digits))
+          ∙ sym stop-is in
+          field-none (drop (length digits) ahead) (ap parts first ∙ f)
+
+      pub ended-stop : stopIn ahead ≡ d .stop
+      ended-stop = whole-stop nothing
 
       pub ended-end : from + length (fieldIn ahead) ≡ d .end
-      ended-end = rw (whole, end-is)
+      ended-end = rw (whole nothing, end-is)
 
-      pub none-written : d .end ≡ from → written form (fieldIn ahead) ≡ Malformed
-      none-written q = written-empty form (fieldIn ahead) (omega (arith, ended-end))
+      -- As many as are counted.
+      module _ {n : ℕ} (m : n ≡ d .end - from) where
+        count-is : n ≡ length digits
+        count-is = m ∙ rw (end-is, add-sub-cancel-left)
 
-      -- One digit if it is 0, and else as many as there may be.
-      module _ (n : d .end ≡ from → ⊥) {room : ℕ} (r : room ≡ cond (eqb (getD text from 0) 0x30) 1 (form .most)) where
-        some : 1 ≤ length digits
-        some = go (decLt 0 (length digits))
-          where
-            go : Dec (0 < length digits) → 1 ≤ length digits
-            go (yes h) = h
-            go (no h) = absurd (n (end-is ∙ omega arith))
+        pub none-written : n < 1 → written form (fieldIn ahead) ≡ Malformed
+        none-written h = rw (whole nothing) (written-empty form digits (omega (arith, count-is)))
 
-        led-is : (t : Bool) → eqb (getD text from 0) 0x30 ≡ t → eqb (getD digits 0 0) 0x30 ≡ t
-        led-is t q =
-            ap (λ (b : ℕ). eqb b 0x30)
-            (digits-first form ahead some ∙ getD-drop from text 0 0 ∙ ap (λ (k : ℕ). getD text k 0) (add-zero from))
-            ∙ q
+        pub many-written : form .most < n → written form (fieldIn ahead) ≡ Malformed
+        many-written h = rw (whole nothing) (written-long form digits (omega (arith, count-is)))
 
-        pub over-written : room < d .end - from → written form (fieldIn ahead) ≡ Malformed
-        over-written h = rw whole (go (eqb (getD text from 0) 0x30) refl r)
-          where
-            go :
-                (t : Bool) → eqb (getD text from 0) 0x30 ≡ t → room ≡ cond t 1 (form .most)
-                → written form digits ≡ Malformed
-            go true q k =
-                written-led form digits
-                (zero-is digits some ∙ rw (led-is true q, lt-ltb 1 (length digits) (omega (arith, count-is))))
-            go false q k = written-long form digits (omega (arith, count-is))
+        module _ (some : 1 ≤ n) where
+          zero-led : leadingZero digits ≡ eqb (getD text from 0) 0x30 && ltb 1 n
+          zero-led =
+              zero-is digits (omega (arith, count-is))
+              ∙ rw (
+                digits-first form ahead (omega (arith, count-is)),
+                getD-drop from text 0 0,
+                add-zero from,
+                ← count-is,
+              )
 
-        pub fit-written : d .end - from ≤ room → written form (fieldIn ahead) ≡ Value (d .value)
-        unfolding digitsRead
-        fit-written h = rw whole (go (eqb (getD text from 0) 0x30) refl r)
-          where
-            value : length digits ≤ form .most → Value (valueFrom form 0 digits) ≡ Value (d .value)
-            value m =
-                ap Value (sym (value-fits form p digits (digits-all form ahead) m) ∙ sym (ap (λ r. r .value) e))
+          pub led-written : eqb (getD text from 0) 0x30 && ltb 1 n ≡ true → written form (fieldIn ahead) ≡ Malformed
+          led-written h = rw (whole nothing) (written-led form digits (zero-led ∙ h))
 
-            go :
-                (t : Bool) → eqb (getD text from 0) 0x30 ≡ t → room ≡ cond t 1 (form .most)
-                → written form digits ≡ Value (d .value)
-            go true q k =
-                let m : length digits ≤ form .most = omega (arith, count-is, p .one) in
-                written-is form digits some m (digits-all form ahead)
-                (zero-is digits some ∙ rw (led-is true q, le-ltb 1 (length digits) (omega (arith, count-is))))
-                ∙ value m
-            go false q k =
-                let m : length digits ≤ form .most = omega (arith, count-is) in
-                written-is form digits some m (digits-all form ahead) (zero-is digits some ∙ rw (led-is false q))
-                ∙ value m
+          pub fit-written :
+              n ≤ form .most → eqb (getD text from 0) 0x30 && ltb 1 n ≡ false
+              → written form (fieldIn ahead) ≡ Value (d .value)
+          unfolding digitsRead
+          fit-written h k =
+              let most : length digits ≤ form .most = omega (arith, count-is) in
+              rw (whole nothing)
+              (written-is form digits (omega (arith, count-is)) most (digits-all form ahead) (zero-led ∙ k))
+              ∙ ap Value
+              (sym (value-fits form p digits (digits-all form ahead) most) ∙ sym (ap (λ r. r .value) e))

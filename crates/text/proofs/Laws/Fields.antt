@@ -1,81 +1,128 @@
--- The first field after a place, read so, says how the line goes on: by cases on whether the place is inside.
+-- The fields from a place to its line's end, by the byte that ends the first of them: a tab, and the others stand past it
+-- on the same line; the line's end, and there is no other; or none, and the line has no end.
 use Prim.Native.Nat.{ℕ, _+_, _<_, _≤_}
 use mathlib.Core.Path.{_≡_, refl, sym, _∙_, ap}
 use mathlib.Core.List.{List, [], _∷_}
 use native.Mathlib.Omega.{arith}
 use native.Mathlib.Decide.{decLt}
 use borrow.Author.Tests.{lt-ltb, le-ltb}
-use lib.ListN.{length, drop}
-use Rattle.text.proofs.Laws.Cut.{cut-at}
-use Rattle.text.specs.Cut.{fieldsOf, tab}
-use Rattle.text.specs.Lines.{given, nextField, last}
-use Rattle.text.specs.Places.{pieceAt, endAt, fieldsAfter, foundAt, fieldAfter}
-use Rattle.text.specs.declared.line.Cursor.{Cursor}
-use Rattle.text.specs.declared.line.Field.{Field}
-use Rattle.text.specs.declared.line.Field.the-variants.{Found, Missing}
-use Rattle.text.specs.declared.line.Line.{Line}
-use Rattle.text.specs.declared.line.Line.the-variants.{Bad}
-use Rattle.text.specs.declared.line.Number.{Number}
-use Rattle.text.specs.declared.line.Number.the-variants.{Value, Malformed}
+use lib.ListN.{length, drop, getD, length-drop, List·getD-eq-default}
+use lib.Seq.{getD-take, getD-drop}
+use Rattle.text.proofs.Laws.Cut.{piece-within, piece-front, piece-stop, cut-next, end-there}
+use Rattle.text.proofs.Laws.Cut.{end-same, piece-rest}
+use Rattle.text.proofs.Laws.Ends.{fieldIn, piece-field, end-field}
+use Rattle.text.specs.Cut.{cut, tab, lineEnd}
+use Rattle.text.specs.Places.{first, pieceAt, endAt}
+use Rattle.text.specs.Readers.{fieldAt, fieldEnd, stopAt}
+use Rattle.text.specs.Rest.{fieldsFrom}
 
-module _ (line : List ℕ) (at : ℕ) where
-  pub fields-at : fieldsOf (drop at line) ≡ pieceAt tab line at ∷ fieldsAfter line (endAt tab line at)
-  unfolding fieldsAfter
-  fields-at = cut-at tab line at
+module _ (text : List ℕ) (at : ℕ) where
+  abbrev line : List ℕ
+  line = pieceAt lineEnd text at
 
-  fields-none : length line ≤ at → fieldsAfter line at ≡ []
-  unfolding fieldsAfter
-  fields-none h = rw (le-ltb at (length line) h)
+  abbrev end : ℕ
+  end = endAt lineEnd text at
 
-  fields-some : at < length line → fieldsAfter line at ≡ fieldsOf (drop (at + 1) line)
-  unfolding fieldsAfter
-  fields-some h = rw (lt-ltb at (length line) h)
+  -- The field is the first of its line's rest.
+  abbrev size : ℕ
+  size = length (first (cut tab line))
 
-fields-more :
-    (line : List ℕ) (at : ℕ) → at < length line
-    → fieldsAfter line at ≡ pieceAt tab line (at + 1) ∷ fieldsAfter line (endAt tab line (at + 1))
-fields-more line at h = fields-some line at h ∙ fields-at line (at + 1)
+  field-is : fieldAt text at ≡ first (cut tab line)
+  unfolding fieldAt fieldIn pieceAt
+  field-is = piece-field text at
 
-module _ (line : List ℕ) (at : ℕ) (said : Line) where
-  pub last-none : length line ≤ at → last (fieldsAfter line at) said ≡ said
-  last-none h = rw (fields-none line at h)
+  end-is : fieldEnd text at ≡ at + size
+  unfolding fieldEnd fieldIn pieceAt
+  end-is = end-field text at
 
-  pub last-some : at < length line → last (fieldsAfter line at) said ≡ Bad
-  last-some h = rw (fields-more line at h)
+  line-long : end ≡ at + length line
+  unfolding endAt
+  line-long = refl
 
-module _ (line : List ℕ) (more : ℕ → List (List ℕ) → Line) where
-  -- How a line goes on with what was found.
-  abbrev onward : Field → Line
-  onward (Found n c) = more n (fieldsAfter line (c .at))
-  onward Missing = Bad
+  end-within : fieldEnd text at ≤ end
+  end-within = omega (arith, end-is, line-long, piece-within tab line)
 
-  given-found : (n : Number) (c : Cursor) → given n (λ v. more v (fieldsAfter line (c .at))) ≡ onward (foundAt n c)
-  given-found (Value v) c = refl
-  given-found Malformed c = refl
+  -- A field that ends before its line does ends at a tab.
+  module _ (h : fieldEnd text at < end) where
+    inside : size < length line
+    inside = omega (arith, end-is, line-long, h)
 
-  next-after :
-      (read : List ℕ → Number) (c : Cursor)
-      → nextField read (fieldsAfter line (c .at)) more ≡ onward (fieldAfter read line c)
-  unfolding fieldAfter
-  next-after read c = go (decLt (c .at) (length line))
-    where
-      go : Dec (c .at < length line) → nextField read (fieldsAfter line (c .at)) more ≡ onward (fieldAfter read line c)
-      go (yes h) =
-          let end = endAt tab line (c .at + 1) in
-          rw (fields-more line (c .at) h, lt-ltb (c .at) (length line) h)
-          (given-found (read (pieceAt tab line (c .at + 1))) (record { at = end; line = c .line }))
-      go (no h) = rw (fields-none line (c .at) (omega arith), le-ltb (c .at) (length line) (omega arith))
+    end-inside : end ≤ length text
+    unfolding endAt pieceAt
+    end-inside = omega (arith, h, end-is, piece-within lineEnd (drop at text), length-drop at text)
 
-  module _ (read : List ℕ → Number) (c : Cursor) {r : Field} (e : r ≡ fieldAfter read line c) where
-    pub next-found :
-        {n : ℕ} {c′ : Cursor} → r ≡ Found n c′
-        → nextField read (fieldsAfter line (c .at)) more ≡ more n (fieldsAfter line (c′ .at))
-    next-found g = next-after read c ∙ ap onward (sym e ∙ g)
+    inner-stop : stopAt text at ≡ tab
+    unfolding stopAt pieceAt
+    inner-stop =
+        ap (λ (k : ℕ). getD text k 0) end-is
+        ∙ sym (getD-drop at text size 0)
+        ∙ sym (getD-take (length line) (drop at text) size 0 inside)
+        ∙ ap (λ l. getD l size 0) (piece-front lineEnd (drop at text))
+        ∙ piece-stop tab line inside
 
-    pub next-missing : r ≡ Missing → nextField read (fieldsAfter line (c .at)) more ≡ Bad
-    next-missing g = next-after read c ∙ ap onward (sym e ∙ g)
+    inner-end : endAt lineEnd text (fieldEnd text at + 1) ≡ end
+    inner-end =
+        let q : fieldEnd text at + 1 ≡ at + (size + 1) = omega (arith, end-is) in
+        rw q (end-same lineEnd text at (size + 1) (omega (arith, end-is, h)))
 
-module _ (read : List ℕ → Number) (line : List ℕ) (c : Cursor) where
-  pub field-none : length line ≤ c .at → fieldAfter read line c ≡ Missing
-  unfolding fieldAfter
-  field-none h = rw (le-ltb (c .at) (length line) h)
+    inner-fields : fieldsFrom text at ≡ fieldAt text at ∷ fieldsFrom text (fieldEnd text at + 1)
+    unfolding fieldsFrom
+    inner-fields =
+        let q : fieldEnd text at + 1 ≡ at + (size + 1) = omega (arith, end-is) in
+        rw (q, field-is, ← piece-rest lineEnd text at (size + 1) (omega (arith, end-is, h)))
+        (cut-next tab line ∙ rw (lt-ltb size (length line) inside))
+
+  -- The last field of a line.
+  module _ (h : end ≤ fieldEnd text at) where
+    last-fields : fieldsFrom text at ≡ fieldAt text at ∷ []
+    unfolding fieldsFrom
+    last-fields =
+        rw field-is (cut-next tab line ∙ rw (le-ltb size (length line) (omega (arith, end-is, line-long, h))))
+
+    last-end : fieldEnd text at ≡ end
+    last-end = omega (arith, end-within, h)
+
+    last-stop : end < length text → stopAt text at ≡ lineEnd
+    unfolding stopAt
+    last-stop k = rw last-end (end-there lineEnd text at k)
+
+    open-stop : length text ≤ end → stopAt text at ≡ 0
+    unfolding stopAt
+    open-stop k = rw last-end (List·getD-eq-default text 0 k)
+
+  -- What follows from the byte that ends the field: the line goes on past a tab, and a line end is its own.
+  pub record Inner : Type 0 where
+    pub fields : fieldsFrom text at ≡ fieldAt text at ∷ fieldsFrom text (fieldEnd text at + 1)
+    pub same-end : endAt lineEnd text (fieldEnd text at + 1) ≡ end
+    pub within : fieldEnd text at + 1 ≤ length text
+
+  pub record Last : Type 0 where
+    pub fields : fieldsFrom text at ≡ fieldAt text at ∷ []
+    pub same-end : fieldEnd text at ≡ end
+    pub within : end < length text
+
+  module _ (P : Type 0) (inner : stopAt text at ≡ tab → Inner → P) (final : stopAt text at ≡ lineEnd → Last → P)
+      (unended : stopAt text at ≡ 0 → length text ≤ end → P) where
+    pub by-stop : P
+    by-stop = go (decLt (fieldEnd text at) end) (decLt end (length text))
+      where
+        go : Dec (fieldEnd text at < end) → Dec (end < length text) → P
+        go (yes h) d =
+            inner (inner-stop h)
+            (record { fields = inner-fields h; same-end = inner-end h; within = omega (arith, h, end-inside h) })
+        go (no h) (yes k) =
+            let late : end ≤ fieldEnd text at = omega arith in
+            final (last-stop late k) (record { fields = last-fields late; same-end = last-end late; within = k })
+        go (no h) (no k) = unended (open-stop (omega arith) (omega arith)) (omega arith)
+
+  pub step-tab : stopAt text at ≡ tab → Inner
+  step-tab e =
+      by-stop Inner (λ f g. g) (λ f g. absurd (omega (arith, e, f))) (λ f g. absurd (omega (arith, e, f)))
+
+  pub step-end : stopAt text at ≡ lineEnd → Last
+  step-end e =
+      by-stop Last (λ f g. absurd (omega (arith, e, f))) (λ f g. g) (λ f g. absurd (omega (arith, e, f)))
+
+  pub step-none : stopAt text at ≡ 0 → length text ≤ end
+  step-none e =
+      by-stop (length text ≤ end) (λ f g. absurd (omega (arith, e, f))) (λ f g. absurd (omega (arith, e, f))) (λ f g. g)

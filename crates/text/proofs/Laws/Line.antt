@@ -1,145 +1,168 @@
--- The line at a place of a text: no byte before its end is a line end, so the readers find one just where the line's
--- fields end with it.
-use Prim.Native.Nat.{ℕ, _+_, _-_, _<_, _≤_}
+-- The line at a place of a text: its record word and its first number, and after these what each kind has.
+use Prim.Native.Nat.{ℕ, _+_, _<_}
 use mathlib.Core.Path.{_≡_, refl, sym, _∙_, ap}
-use mathlib.Core.Bool.{Bool, true, false, cond}
-use mathlib.Core.List.{List}
-use native.Mathlib.Nat.{add-sub-cancel-left}
+use mathlib.Core.Bool.{true, false, true≢false}
+use mathlib.Core.List.{List, [], _∷_}
 use native.Mathlib.Omega.{arith}
 use native.Mathlib.Decide.{decLt}
-use borrow.Author.Tests.{lt-ltb, le-ltb}
-use lib.ListN.{length, take, drop, getD}
-use lib.Seq.{take-add, drop-at, length-take-le}
-use Rattle.text.proofs.Laws.Cut.{piece-is, end-least, end-most, end-first, end-there}
-use Rattle.text.proofs.Laws.Ends.{up-long}
-use Rattle.text.proofs.Laws.Fields.{fields-at}
-use Rattle.text.proofs.Laws.Forward.{Forward, fields-along, inside, line-end-is, line-counted, line-end-forward}
-use Rattle.text.proofs.Laws.Readers.{line-end-here, line-end-other}
-use Rattle.text.proofs.Laws.Said.{closed, fields-say}
-use Rattle.text.specs.Readers.{wordRead, numberRead, wordAt, pastWord, pastFields, lineEndAt}
-use Rattle.text.specs.Readers.{fieldsRead, lineAt, lineRead}
-use Rattle.text.specs.Said.{fieldsSay}
-use Rattle.text.specs.declared.read.FieldsRead.{FieldsRead}
-use Rattle.text.specs.Cut.{fieldsOf, lineEnd}
-use Rattle.text.specs.Lines.{lineOf, lineBy, lineOfKind}
+use borrow.Author.Tests.{le-ltb}
+use lib.ListN.{length}
+use Rattle.text.proofs.Laws.Readers.{nothing, rest-bad, rest-same, inner-read, inner-none, last-read, last-none, word-says}
+use Rattle.text.proofs.Laws.Forward.{field-same, word-same}
+use Rattle.text.specs.declared.read.NumberRead.{NumberRead}
+use Rattle.text.specs.declared.read.WordRead.{WordRead}
+use Rattle.text.specs.Cut.{tab, lineEnd}
+use Rattle.text.specs.Lines.{given, nextField, last, lineOfKind}
+use Rattle.text.specs.Lines.{segmentLine, partitionLine, rightLine, flowLine, slotLine}
 use Rattle.text.specs.Number.{number}
-use Rattle.text.specs.Places.{upTo, pieceAt, endAt, fieldsAfter}
+use Rattle.text.specs.Places.{endAt}
+use Rattle.text.specs.Readers.{wordRead, fieldRead, innerRead, lastRead, lineAt, lineFound, lineRead}
+use Rattle.text.specs.Rest.{fieldsFrom, restRead, hasTwo, twoSay, afterFirst}
 use Rattle.text.specs.declared.line.Cursor.{Cursor}
+use Rattle.text.specs.declared.line.Kind.{Kind}
+use Rattle.text.specs.declared.line.Kind.the-variants.{OfSegment, OfPartition, OfRight, OfFlow, OfSlot, Unknown}
 use Rattle.text.specs.declared.line.Line.{Line}
-use Rattle.text.specs.declared.line.Line.the-variants.{Bad}
+use Rattle.text.specs.declared.line.Line.the-variants.{Bad, Segment, Partition, Right, Flow, Slot}
+use Rattle.text.specs.declared.line.Number.{Number}
+use Rattle.text.specs.declared.line.Number.the-variants.{Value, Malformed}
 
-module _ (text : List ℕ) (at n : ℕ) (h : at ≤ length text) where
-  abbrev end : ℕ
-  end = endAt lineEnd text at
+-- Each kind has a number first, and something after it.
+kind-first : (kind : Kind) (fs : List (List ℕ)) → lineOfKind number kind fs ≡ nextField number fs (afterFirst kind)
+unfolding segmentLine partitionLine rightLine flowLine slotLine
+kind-first OfSegment fs = refl
+kind-first OfPartition fs = refl
+kind-first OfRight fs = refl
+kind-first OfFlow fs = refl
+kind-first OfSlot fs = refl
+kind-first Unknown [] = refl
+kind-first Unknown (f ∷ fs) = go (number f)
+  where
+    go : (v : Number) → Bad ≡ given v (λ n. Bad)
+    go (Value n) = refl
+    go Malformed = refl
 
-  abbrev line : List ℕ
-  line = upTo text at
+not-first : (kind : Kind) (n : ℕ) → afterFirst kind n [] ≡ Bad
+not-first OfSegment n = refl
+not-first OfPartition n = refl
+not-first OfRight n = refl
+not-first OfFlow n = refl
+not-first OfSlot n = refl
+not-first Unknown n = refl
 
-  -- The place before the line's fields, and after them.
-  abbrev from : Cursor
-  from = record { at = at; line = n }
+-- The line, by its record word and its first number.
+module _ (text : List ℕ) (at n : ℕ) {w : WordRead} {p : NumberRead} (is-word : w ≡ wordRead text (record { at = at; line = n }))
+    (is-first : p ≡ innerRead text (w .next)) where
+  abbrev afterWord : List (List ℕ) → Line
+  afterWord fs = nextField number fs (afterFirst (w .kind))
 
-  abbrev place : Cursor
-  place = pastFields line from
+  line-first : lineRead text at n ≡ restRead afterWord text (w .next)
+  unfolding lineRead lineAt restRead fieldsFrom
+  line-first =
+      word-says text (record { at = at; line = n }) is-word
+      ∙ rest-same (lineOfKind number (w .kind)) afterWord text (w .next) (kind-first (w .kind) (fieldsFrom text (w .next .at)))
 
-  -- The text up to the line's end, from the place on, is the line.
-  line-part : drop at line ≡ pieceAt lineEnd text at
-  unfolding endAt
-  line-part =
-      let k = length (pieceAt lineEnd text at) in
-      ap (drop at) (take-add at k text)
-      ∙ drop-at (take at text) (take k (drop at text)) at (length-take-le at text h)
-      ∙ rw (← add-sub-cancel-left at k) (piece-is lineEnd text at)
+  pub line-read : {a : ℕ} → p .number ≡ Value a → lineRead text at n ≡ restRead (afterFirst (w .kind) a) text (p .next)
+  line-read e = line-first ∙ inner-read text (w .next) number (afterFirst (w .kind)) is-first e
 
-  line-long : length line ≡ end
-  line-long = up-long text at h
+  pub line-none : p .number ≡ Malformed → lineRead text at n ≡ nothing
+  line-none e = line-first ∙ inner-none text (w .next) number (afterFirst (w .kind)) is-first (not-first (w .kind)) e
 
-  -- The fields leave the place on the line; where a line end stands at it, that is the line's.
-  first-byte : at ≤ place .at
-  first-byte = fields-along line from .byte
+  pub line-same : p .next .line ≡ n
+  line-same =
+      ap (λ r. r .next .line) is-first
+      ∙ field-same text (w .next) number tab
+      ∙ ap (λ r. r .next .line) is-word
+      ∙ word-same text (record { at = at; line = n })
 
-  last-byte : place .at ≤ end
-  last-byte =
-      omega
-      (arith, line-long, fields-along line from .within (omega (arith, line-long, end-least lineEnd text at)))
+pub by-two : (kind : Kind) → hasTwo kind ≡ true → (P : Kind → Type 0) → P OfFlow → P OfSlot → P kind
+by-two OfSegment e P f s = absurd (true≢false (sym e))
+by-two OfPartition e P f s = absurd (true≢false (sym e))
+by-two OfRight e P f s = absurd (true≢false (sym e))
+by-two OfFlow e P f s = f
+by-two OfSlot e P f s = s
+by-two Unknown e P f s = absurd (true≢false (sym e))
 
-  stops-there : getD text (place .at) 0 ≡ lineEnd → place .at ≡ end
-  stops-there e = go (decLt (place .at) end)
-    where
-      go : Dec (place .at < end) → place .at ≡ end
-      go (yes k) = absurd (end-first lineEnd text at (place .at) first-byte k e)
-      go (no k) = omega (arith, last-byte)
+module _ (text : List ℕ) (c : Cursor) where
+  -- A kind with two numbers.
+  module _ (a : ℕ) (kind : Kind) (two : hasTwo kind ≡ true) {r : NumberRead} (is : r ≡ lastRead text c) where
+    pub pair-read :
+        {b : ℕ} {said : Line} → r .number ≡ Value b → said ≡ twoSay kind a b
+        → record { line = said; next = record { at = r .next .at; line = c .line + 1 } }
+        ≡ restRead (afterFirst kind a) text c
+    pair-read {b} e s =
+        rw s
+        (by-two kind two
+        (λ k. record { line = twoSay k a b; next = record { at = r .next .at; line = c .line + 1 } } ≡ restRead (afterFirst k a) text c)
+        (sym (last-read text c number (λ b fs. last fs (Flow a b)) is e)) (sym (last-read text c number (λ b fs. last fs (Slot a b)) is e)))
 
-  not-ended : (getD text (place .at) 0 ≡ lineEnd → ⊥) → lineEndAt text place ≡ false
-  not-ended d = ap (λ r. r .ended) (line-end-other text place d)
+    pub pair-none : r .number ≡ Malformed → nothing ≡ restRead (afterFirst kind a) text c
+    pair-none e =
+        by-two kind two (λ k. nothing ≡ restRead (afterFirst k a) text c)
+        (sym (last-none text c number (λ b fs. last fs (Flow a b)) is (λ n f fs. refl) e))
+        (sym (last-none text c number (λ b fs. last fs (Slot a b)) is (λ n f fs. refl) e))
 
-  ended : end < length text → place .at ≡ end → lineEndAt text place ≡ true
-  ended l q =
-      ap (λ r. r .ended)
-      (line-end-here text place (ap (λ (i : ℕ). getD text i 0) q ∙ end-there lineEnd text at l))
+  -- A kind with three fields.
+  module _ {q : NumberRead} (is : q ≡ innerRead text c) where
+    pub second-none :
+        (a : ℕ) (kind : Kind) → hasTwo kind ≡ false → q .number ≡ Malformed → nothing ≡ restRead (afterFirst kind a) text c
+    second-none a kind t e = sym (go kind t)
+      where
+        go : (k : Kind) → hasTwo k ≡ false → restRead (afterFirst k a) text c ≡ nothing
+        go OfSegment t = inner-none text c number _ is (λ n. refl) e
+        go OfPartition t = inner-none text c number _ is (λ n. refl) e
+        go OfRight t = inner-none text c number _ is (λ n. refl) e
+        go OfFlow t = absurd (true≢false t)
+        go OfSlot t = absurd (true≢false t)
+        go Unknown t = rest-bad text c
 
-  ended-closed : end < length text → (said : Line) → cond (lineEndAt text place) said Bad ≡ closed line place said
-  ended-closed l said = go (decLt (place .at) end)
-    where
-      go : Dec (place .at < end) → cond (lineEndAt text place) said Bad ≡ closed line place said
-      go (yes k) =
-          rw (not-ended (end-first lineEnd text at (place .at) first-byte k), line-long, lt-ltb (place .at) end k)
-      go (no k) =
-          rw (ended l (omega (arith, last-byte)), line-long, le-ltb (place .at) end (omega arith))
+    module _ (read : List ℕ → Number) (said : ℕ → ℕ → Line) {r : NumberRead} (third : r ≡ fieldRead read lineEnd text (q .next))
+        {b : ℕ} (second : q .number ≡ Value b) where
+      abbrev rest : List (List ℕ) → Line
+      rest fs = nextField number fs λ b fs. nextField read fs λ d fs. last fs (said b d)
 
-  kind-says :
-      lineOfKind number (wordAt line from) (fieldsAfter line (pastWord line from .at))
-      ≡ lineOf (fieldsOf (pieceAt lineEnd text at))
-  unfolding wordRead lineBy
-  kind-says = rw (← line-part, fields-at line at)
+      pub third-read :
+          {d : ℕ} → r .number ≡ Value d
+          → lineFound (said b d) (record { at = r .next .at; line = c .line + 1 }) ≡ restRead rest text c
+      third-read {d} e =
+          let same : q .next .line ≡ c .line = ap (λ x. x .next .line) is ∙ field-same text c number _ in
+          sym (inner-read text c number _ is second ∙ last-read text (q .next) read _ third e ∙ rw same)
 
-  -- What the readers found says what the line says.
-  line-says : fieldsSay (fieldsRead text line at n) ≡ lineAt text at
-  unfolding fieldsRead lineAt numberRead
-  line-says = go (decLt end (length text))
-    where
-      go : Dec (end < length text) → fieldsSay (fieldsRead text line at n) ≡ lineAt text at
-      go (yes l) =
-          ended-closed l _
-          ∙ fields-say line (wordAt line from) (pastWord line from) _ _ refl refl
-          ∙ kind-says
-          ∙ rw (lt-ltb end (length text) l)
-      go (no l) =
-          rw (
-            not-ended (λ e. l (omega (arith, inside text place e, stops-there e))),
-            le-ltb end (length text) (omega arith),
-          )
+      pub third-none : r .number ≡ Malformed → nothing ≡ restRead rest text c
+      third-none e =
+          sym (inner-read text c number _ is second ∙ last-none text (q .next) read _ third (λ n f fs. refl) e)
 
-  -- The code's answer, by what it called.
-  pub line-read :
-      {f : FieldsRead} {said : Line} → f ≡ fieldsRead text line at n → said ≡ fieldsSay f
-      → record { line = said; next = f .next } ≡ lineRead text at n
+module _ (text : List ℕ) (at n : ℕ) where
+  -- What is read says what the line says.
+  pub line-says : lineRead text at n .line ≡ lineAt text at
   unfolding lineRead
-  line-read g s = rw (s, g, line-says)
+  line-says = go (lineAt text at) _
+    where
+      go : (l : Line) (past : Cursor) → lineFound l past .line ≡ l
+      go Bad past = refl
+      go (Segment id base size) past = refl
+      go (Partition id code save) past = refl
+      go (Right partition segment mode) past = refl
+      go (Flow from to) past = refl
+      go (Slot partition ticks) past = refl
 
-  -- A line that says something ends in hex 0A, and the place is left past that, on the next line.
+  -- A line that is not bad ends in hex 0A, and the place is left past that, on the next line.
   abbrev Left : Type 0
-  Left = (end < length text) × (lineRead text at n .next ≡ record { at = end + 1; line = n + 1 })
+  Left =
+      (endAt lineEnd text at < length text)
+      × (lineRead text at n .next ≡ record { at = endAt lineEnd text at + 1; line = n + 1 })
 
   pub line-left : (lineAt text at ≡ Bad → ⊥) → Left
-  unfolding fieldsRead lineRead
-  line-left d = go (lineEndAt text place) refl
+  unfolding lineAt lineRead
+  line-left d = (ended (decLt (endAt lineEnd text at) (length text)), go (lineAt text at) _ d)
     where
-      go : (t : Bool) → lineEndAt text place ≡ t → Left
-      go false e = absurd (d (sym line-says ∙ rw e))
-      go true e =
-          let s = line-end-is text place e in (
-            omega (arith, inside text place s, stops-there s),
-            line-counted text place e ∙ rw (stops-there s, fields-along line from .same-line),
-          )
+      ended : Dec (endAt lineEnd text at < length text) → endAt lineEnd text at < length text
+      ended (yes h) = h
+      ended (no h) = absurd (d (rw (le-ltb (endAt lineEnd text at) (length text) (omega arith))))
 
-  -- With each line the place moves forward, and stays in the text.
-  pub line-forward : Forward text from (lineRead text at n .next)
-  unfolding fieldsRead lineRead
-  line-forward =
-      let f = line-end-forward text place in
-      record {
-        byte = omega (arith, first-byte, f .byte);
-        line = omega (arith, fields-along line from .same-line, f .line);
-        within = λ k. f .within (omega (arith, last-byte, end-most lineEnd text at h));
-      }
+      go : (l : Line) (past : Cursor) → (l ≡ Bad → ⊥) → lineFound l past .next ≡ past
+      go Bad past d = absurd (d refl)
+      go (Segment id base size) past d = refl
+      go (Partition id code save) past d = refl
+      go (Right partition segment mode) past d = refl
+      go (Flow from to) past d = refl
+      go (Slot partition ticks) past d = refl

@@ -21,7 +21,6 @@ pub record Proper (form : Notation) : Type 0 where
   pub above : (b : ℕ) → form .isDigit b ≡ true → lineEnd < b
   pub small : (b : ℕ) → form .isDigit b ≡ true → form .worth b < form .base
   pub some : 0 < form .base
-  pub one : 1 ≤ form .most
   pub fits : form .base ^ form .most ≤ 4294967296
 
 pub zero-is : (l : List ℕ) → 1 ≤ length l → leadingZero l ≡ eqb (getD l 0 0) 0x30 && ltb 1 (length l)

@@ -1,139 +1,222 @@
--- A field is a word that has no separator in it, just if the text goes on with the word and the field ends after it: one
--- byte at a time, since no byte of the word ends a field.
-use Prim.Native.Nat.{ℕ, suc, _+_, _-_, _<_}
-use mathlib.Core.Path.{_≡_, refl, sym, _∙_}
-use mathlib.Core.Bool.{Bool, true, false, _&&_, not, and-assoc}
-use mathlib.Core.List.{List, [], _∷_}
-use native.Mathlib.Omega.{arith}
+-- A field is a word that has no separator in it, with this separator behind it, just if the text goes on with the word
+-- and the separator: one byte at a time, since no byte of the word ends a field.
+use Prim.Native.Nat.{ℕ, _+_, _-_, _<_, _≤_}
+use mathlib.Core.Path.{_≡_, refl, sym, _∙_, ap}
+use mathlib.Core.Bool.{Bool, true, false, _&&_, _||_, not, true≢false, cond, and-false}
+use mathlib.Core.List.{List, [], _∷_, _++_}
 use native.Mathlib.Nat.{add-sub-cancel-left}
-use borrow.Author.Tests.{ne-eqb, eqb-true, eqb-false, not-true}
+use native.Mathlib.Omega.{arith}
+use borrow.Author.Tests.{eq-eqb, ne-eqb}
 use lib.Dec.{eqb}
-use lib.ListN.{length, take, drop, getD, length-drop}
-use lib.Seq.{drop-drop}
-use Rattle.text.proofs.Laws.Bools.{and-left, and-right, eqb-sum}
+use lib.ListN.{length, take, drop, length-append, length-drop, length-take, drop-of-length-le}
+use Rattle.text.proofs.Laws.Bools.{and-left, and-right}
 use Rattle.text.proofs.Laws.Bytes.{same-lengths, same-equal}
-use Rattle.text.proofs.Laws.Ends.{fieldIn, field-nil, field-tab, field-line, field-more, field-within, piece-field, end-field}
-use Rattle.text.proofs.Laws.Ends.{after-field}
-use Rattle.text.specs.Readers.{wordRead, takenFrom, lettersRead}
+use Rattle.text.proofs.Laws.Ends.{fieldIn, field-nil}
+use Rattle.text.proofs.Laws.Stops.{parts, stopIn, field-is, end-is, stop-is, field-parts, field-goes, stop-parts}
+use Rattle.text.proofs.Laws.Stops.{stop-nil, stop-goes, parts-some}
 use Rattle.text.specs.Bytes.{same}
 use Rattle.text.specs.Cut.{tab, lineEnd}
 use Rattle.text.specs.Lines.{wordOf}
 use Rattle.text.specs.Number.{letters}
-use Rattle.text.specs.Places.{upTo, unparted, pieceAt, endAt, foundAt}
+use Rattle.text.specs.Places.{unparted}
+use Rattle.text.specs.Readers.{fieldAt, fieldEnd, stopAt, pastField, wordFound, wordRead, numberFound}
+use Rattle.text.specs.Readers.{fieldRead, lettersRead}
 use Rattle.text.specs.declared.line.Cursor.{Cursor}
-use Rattle.text.specs.declared.line.Kind.{Kind}
+use Rattle.text.specs.declared.line.Kind.the-variants.{Unknown}
+use Rattle.text.specs.declared.line.Number.{Number}
 use Rattle.text.specs.declared.line.Number.the-variants.{Malformed}
 
--- The field ends where it begins.
-abbrev empty : List ℕ → Bool
-empty l = eqb (length (fieldIn l)) 0
+-- Bytes one of which ends a field and one of which does not.
+parted-ne : (a b : ℕ) → parts a ≡ true → parts b ≡ false → eqb a b ≡ false
+parted-ne a b h k = ne-eqb a b (λ e. true≢false (sym h ∙ ap parts e ∙ k))
 
-none : (f : List ℕ) → same f [] ≡ eqb (length f) 0
-unfolding same
-none [] = refl
-none (x ∷ f) = sym (ne-eqb (suc (length f)) 0 (λ e. omega arith))
+ne-parted : (a b : ℕ) → parts a ≡ false → parts b ≡ true → eqb a b ≡ false
+ne-parted a b h k = ne-eqb a b (λ e. true≢false (sym k ∙ ap parts (sym e) ∙ h))
 
--- By the byte x of the text and the byte y of the word.
-module _ (x y : ℕ) (l w : List ℕ) (plain : not (eqb y tab) && not (eqb y lineEnd) ≡ true)
-    (more : same (fieldIn l) w ≡ same (take (length w) l) w && empty (drop (length w) l)) where
-  abbrev goal : Type 0
-  goal = same (fieldIn (x ∷ l)) (y ∷ w) ≡ (eqb x y && same (take (length w) l) w) && empty (drop (length w) l)
+plain-is : (y : ℕ) → not (eqb y tab) && not (eqb y lineEnd) ≡ true → parts y ≡ false
+plain-is y = go (eqb y tab) (eqb y lineEnd)
+  where
+    go : (t u : Bool) → not t && not u ≡ true → t || u ≡ false
+    go true u h = absurd (true≢false (sym h))
+    go false true h = absurd (true≢false (sym h))
+    go false false h = refl
 
-  -- a separator is no byte of the word
-  parts : (x ≡ y → ⊥) → fieldIn (x ∷ l) ≡ [] → goal
+swapped : (a b c : Bool) → a && (b && c) ≡ b && (a && c)
+swapped true b c = refl
+swapped false true c = refl
+swapped false false c = refl
+
+module _ (end : ℕ) (p : parts end ≡ true) where
+  -- The word behind which the separator stands.
+  abbrev ended : List ℕ → List ℕ
+  ended w = w ++ end ∷ []
+
+  abbrev is : List ℕ → List ℕ → Bool
+  is l w = eqb (stopIn l) end && same (fieldIn l) w
+
+  stop-stands : (l : List ℕ) → same (take 1 l) (end ∷ []) ≡ is l []
   unfolding same
-  parts d e = rw (e, ne-eqb x y d)
-
-  byte : goal
-  unfolding same
-  byte = go (eqb x tab) refl (eqb x lineEnd) refl
+  stop-stands [] = rw (stop-nil, parts-some end p)
+  stop-stands (x ∷ l) = go (parts x) refl
     where
-      no-tab : y ≡ tab → ⊥
-      no-tab = eqb-false y tab (not-true _ (and-left (not (eqb y tab)) (not (eqb y lineEnd)) plain))
+      go : (t : Bool) → parts x ≡ t → eqb x end && true ≡ is (x ∷ l) []
+      go true e = rw (field-parts x l e, stop-parts x l e)
+      go false e = rw (field-goes x l e, ne-parted x end e p, and-false)
 
-      no-line : y ≡ lineEnd → ⊥
-      no-line = eqb-false y lineEnd (not-true _ (and-right (not (eqb y tab)) (not (eqb y lineEnd)) plain))
+  word-stands : (w l : List ℕ) → unparted w ≡ true → same (take (length (ended w)) l) (ended w) ≡ is l w
+  unfolding same unparted
+  word-stands [] l h = stop-stands l
+  word-stands (y ∷ w) [] h = rw (field-nil, and-false)
+  word-stands (y ∷ w) (x ∷ l) h =
+      let here = not (eqb y tab) && not (eqb y lineEnd) in
+      byte (plain-is y (and-left here (unparted w) h)) (word-stands w l (and-right here (unparted w) h)) (parts x) refl
+    where
+      byte :
+          parts y ≡ false → same (take (length (ended w)) l) (ended w) ≡ is l w → (t : Bool) → parts x ≡ t
+          → eqb x y && same (take (length (ended w)) l) (ended w) ≡ is (x ∷ l) (y ∷ w)
+      byte plain more true e = rw (field-parts x l e, parted-ne x y e plain, and-false)
+      byte plain more false e =
+          rw (field-goes x l e, stop-goes x l e, more) (swapped (eqb x y) (eqb (stopIn l) end) (same (fieldIn l) w))
 
-      go : (t : Bool) → eqb x tab ≡ t → (u : Bool) → eqb x lineEnd ≡ u → goal
-      go true e u f = parts (λ q. no-tab (sym q ∙ eqb-true x tab e)) (field-tab x l (eqb-true x tab e))
-      go false e true f = parts (λ q. no-line (sym q ∙ eqb-true x lineEnd f)) (field-line x l (eqb-true x lineEnd f))
-      go false e false f = rw (field-more x l (eqb-false x tab e) (eqb-false x lineEnd f), more, and-assoc)
+  -- A word with the separator behind it is a field.
+  word-whole :
+      (w later : List ℕ) → unparted w ≡ true
+      → (fieldIn (w ++ end ∷ later) ≡ w) × (stopIn (w ++ end ∷ later) ≡ end)
+  unfolding unparted
+  word-whole [] later h = (field-parts end later p, stop-parts end later p)
+  word-whole (y ∷ w) later h =
+      let here = not (eqb y tab) && not (eqb y lineEnd) in
+      let plain = plain-is y (and-left here (unparted w) h) in
+      let more = word-whole w later (and-right here (unparted w) h) in
+      let rest = w ++ end ∷ later in
+      (field-goes y rest plain ∙ ap (λ l. y ∷ l) (more .0), stop-goes y rest plain ∙ more .1)
 
-word-stands : (w l : List ℕ) → unparted w ≡ true → same (fieldIn l) w ≡ same (take (length w) l) w && empty (drop (length w) l)
-unfolding same unparted
-word-stands [] l h = none (fieldIn l)
-word-stands (y ∷ w) [] h = rw field-nil
-word-stands (y ∷ w) (x ∷ l) h =
-    let here = not (eqb y tab) && not (eqb y lineEnd) in
-    byte x y l w (and-left here (unparted w) h) (word-stands w l (and-right here (unparted w) h))
+  pub word-read :
+      (read : List ℕ → Number) (text : List ℕ) (c : Cursor) (w later : List ℕ) → unparted w ≡ true
+      → drop (c .at) text ≡ w ++ end ∷ later
+      → fieldRead read end text c ≡ numberFound (read w) (record { at = c .at + length w + 1; line = c .line }) c
+  unfolding fieldRead
+  word-read read text c w later h e =
+      let whole = word-whole w later h in
+      rw (
+        stop-is text (c .at),
+        field-is text (c .at),
+        end-is text (c .at),
+        e,
+        whole .0,
+        whole .1,
+        eq-eqb end end refl,
+      )
+
+-- Whether bytes stand at a place.
+abbrev pub standing : List ℕ → ℕ → List ℕ → Bool
+standing text at word = same (take (length word) (drop at text)) word
 
 module _ (text word : List ℕ) (at : ℕ) where
-  abbrev piece : List ℕ
-  piece = pieceAt tab (upTo text at) at
-
-  pub stands-short : length text - at < length word → false ≡ same piece word
+  pub stands-short : length text - at < length word → false ≡ standing text at word
   stands-short h =
       sym
-      (rw (piece-field text at)
-      (same-lengths (fieldIn (drop at text)) word
-      (λ e. omega (arith, field-within (drop at text), length-drop at text, e))))
+      (same-lengths (take (length word) (drop at text)) word
+      (λ e. omega (arith, length-take (length word) (drop at text), length-drop at text, e)))
 
-  -- The word's bytes stand there, and the field ends after them.
-  module _ {end : ℕ} {begun : Bool} (plain : unparted word ≡ true) (e : end ≡ at + length word)
-      (s : begun ≡ same (take (end - at) (drop at text)) word) where
-    both : begun && eqb (endAt tab (upTo text end) end) end ≡ same piece word
-    both =
-        rw (
-          s,
-          e,
-          add-sub-cancel-left,
-          end-field text (at + length word),
-          eqb-sum,
-          piece-field text at,
-          word-stands word (drop at text) plain,
-          drop-drop,
-        )
+  pub stands-whole :
+      {end : ℕ} {begun : Bool} → end ≡ at + length word → begun ≡ same (take (end - at) (drop at text)) word
+      → begun ≡ standing text at word
+  stands-whole e s = s ∙ rw (e, add-sub-cancel-left)
 
-    pub stands-other : begun ≡ false → false ≡ same piece word
-    stands-other f = rw f at both
-
-    pub stands-whole : {ended : Bool} → begun ≡ true → ended ≡ eqb (endAt tab (upTo text end) end) end → ended ≡ same piece word
-    stands-whole f q = q ∙ rw f at both
-
--- A record word that stands at the place, and the place after it.
+-- The field at a place, by the word and the separator that stand there, or by their not standing there.
 module _ (text : List ℕ) (c : Cursor) where
   abbrev field : List ℕ
-  field = pieceAt tab (upTo text (c .at)) (c .at)
+  field = fieldAt text (c .at)
+
+  abbrev stop : ℕ
+  stop = stopAt text (c .at)
+
+  abbrev stays : Cursor
+  stays = record { at = c .at; line = c .line }
+
+  module _ (end : ℕ) (p : parts end ≡ true) where
+    past-stop : length text ≤ c .at → eqb stop end ≡ false
+    past-stop h = rw (stop-is text (c .at), drop-of-length-le text h, stop-nil, parts-some end p)
+
+    -- Behind the text no field has an end.
+    pub field-past :
+        (read : List ℕ → Number) → length text ≤ c .at
+        → record { number = Malformed; next = stays } ≡ fieldRead read end text c
+    unfolding fieldRead
+    field-past read h = rw (past-stop h)
+
+    module _ (word : List ℕ) (plain : unparted word ≡ true) where
+      abbrev whole : List ℕ
+      whole = word ++ end ∷ []
+
+      abbrev past : Cursor
+      past = record { at = c .at + length whole; line = c .line }
+
+      field-told : standing text (c .at) whole ≡ eqb stop end && same field word
+      field-told = rw (stop-is text (c .at), field-is text (c .at)) (word-stands end p word (drop (c .at) text) plain)
+
+      module _ (h : standing text (c .at) whole ≡ true) where
+        stop-here : eqb stop end ≡ true
+        stop-here = and-left (eqb stop end) (same field word) (sym field-told ∙ h)
+
+        field-here : field ≡ word
+        field-here = same-equal field word (and-right (eqb stop end) (same field word) (sym field-told ∙ h))
+
+        past-here : past ≡ pastField text c
+        past-here =
+            let q : c .at + length whole ≡ fieldEnd text (c .at) + 1 =
+            omega (
+              arith,
+              end-is text (c .at),
+              ap length (sym (field-is text (c .at)) ∙ field-here),
+              length-append word (end ∷ []),
+            ) in
+            ap (λ (k : ℕ). record { at = k; line = c .line }) q
+
+        pub field-known : (read : List ℕ → Number) → numberFound (read word) past c ≡ fieldRead read end text c
+        unfolding fieldRead
+        field-known read = rw (stop-here, field-here, past-here)
+
+      pub field-other : standing text (c .at) whole ≡ false → eqb stop end ≡ true → same field word ≡ false
+      field-other h e = sym (rw e at field-told) ∙ h
+
+  pub word-past : length text < c .at → record { kind = Unknown; next = stays } ≡ wordRead text c
+  unfolding wordRead
+  word-past h = rw (past-stop tab refl (omega arith))
 
   pub word-known :
-      (word : List ℕ) → same field word ≡ true
-      → record { kind = wordOf word; next = record { at = c .at + length word; line = c .line } }
-      ≡ wordRead (upTo text (c .at)) c
-  unfolding wordRead endAt
-  word-known word h = rw (same-equal field word h)
+      (word : List ℕ) (plain : unparted word ≡ true) → standing text (c .at) (word ++ tab ∷ []) ≡ true
+      → wordFound (wordOf word) (past tab refl word plain) c ≡ wordRead text c
+  unfolding wordRead
+  word-known word plain h =
+      rw (
+        stop-here tab refl word plain h,
+        field-here tab refl word plain h,
+        past-here tab refl word plain h,
+      )
 
   pub word-unknown :
-      {kind : Kind} {end : ℕ} → end ≡ endAt tab (upTo text (c .at)) (c .at) → wordOf field ≡ kind
-      → record { kind = kind; next = record { at = end; line = c .line } } ≡ wordRead (upTo text (c .at)) c
+      (eqb stop tab ≡ true → wordOf field ≡ Unknown) → record { kind = Unknown; next = stays } ≡ wordRead text c
   unfolding wordRead
-  word-unknown e k = rw (k, e)
+  word-unknown h = go (eqb stop tab) refl
+    where
+      go :
+          (t : Bool) → eqb stop tab ≡ t
+          → record { kind = Unknown; next = stays }
+          ≡ wordFound (cond t (wordOf field) Unknown) (pastField text c) c
+      go true e = rw (h e)
+      go false e = refl
 
--- The field after a place, by the letters that it is, or by its being none of them.
-module _ (text : List ℕ) (c : Cursor) (inside : c .at < length text) (o : getD text (c .at) 0 ≡ lineEnd → ⊥) where
-  abbrev next : List ℕ
-  next = pieceAt tab (upTo text (c .at + 1)) (c .at + 1)
-
-  read-next :
-      takenFrom (foundAt (letters next) (record { at = c .at + 1 + length next; line = c .line })) c
-      ≡ lettersRead (upTo text (c .at)) c
-  unfolding lettersRead
-  read-next = rw (after-field letters text c inside o, piece-field text (c .at + 1))
-
-  pub letters-known :
-      (word : List ℕ) → same next word ≡ true
-      → takenFrom (foundAt (letters word) (record { at = c .at + 1 + length word; line = c .line })) c
-      ≡ lettersRead (upTo text (c .at)) c
-  letters-known word h = rw (same-equal next word h) at read-next
-
-  pub letters-none : letters next ≡ Malformed → record { number = Malformed; next = c } ≡ lettersRead (upTo text (c .at)) c
-  letters-none h = rw h at read-next
+  pub letters-none :
+      (eqb stop lineEnd ≡ true → letters field ≡ Malformed)
+      → record { number = Malformed; next = stays } ≡ lettersRead text c
+  unfolding fieldRead
+  letters-none h = go (eqb stop lineEnd) refl
+    where
+      go :
+          (t : Bool) → eqb stop lineEnd ≡ t
+          → record { number = Malformed; next = stays }
+          ≡ numberFound (cond t (letters field) Malformed) (pastField text c) c
+      go true e = rw (h e)
+      go false e = refl

@@ -1,7 +1,9 @@
 -- What decodes to none faults; a load and a store are the definition's own cases; every other instruction changes the save bytes alone, and
 -- these are lent.
+use mathlib.Core.Path.{sym, _∙_}
 use native.Mathlib.Nat.{add-sub-cancel-left}
 use Rattle.machine.specs.Tick.{executes, obeys}
+use Rattle.parts.proofs.Laws.Counters.{counter-back, counter-fault}
 use Rattle.tick.proofs.Laws.Alone.{acts-alone}
 use borrow.Author.Needs.{needs}
 use Rattle.tick.proofs.obey.Statement.{statement}
@@ -21,31 +23,55 @@ same-length c = search needs
 
 returns : tie.Need-returns
 unfolding obeys
-returns c = rw (c .before .before .before .before .enum-told .given .1) (c .before .before .fault .ensures)
+returns c =
+    let arm = c .before .before .before .before in
+    let p = arm .before .before .before .before .before .pre in
+    let e = c .before .before .fault .ensures in
+    (rw (arm .enum-told .given .1) e, rw e (p .1 .1 .0 ∙ sym (counter-fault _ _ (p .0) _)))
 
 enum-known-i : tie.Need-enum-known-i
 enum-known-i c = search needs
 
 load-requires : tie.Need-load-requires
-load-requires c κs = search needs
+load-requires c κs =
+    let arm = c .before .before in
+    let kind = arm .before .before .before in
+    let p = kind .before .before .before .before .before .pre in
+    let named = rw (kind .d .given .1, arm .i .given .1) at (p .1 .1 .1) in
+    (p .0, (p .1 .0, (p .1 .1 .0, named .0, named .1)))
 
 enum-known-i-2 : tie.Need-enum-known-i-2
 enum-known-i-2 c = search needs
 
 store-requires : tie.Need-store-requires
-store-requires c κs = search needs
+store-requires c κs =
+    let arm = c .before .before in
+    let kind = arm .before .before .before in
+    let p = kind .before .before .before .before .before .pre in
+    let named = rw (kind .d .given .1, arm .i2 .given .1) at (p .1 .1 .1) in
+    (p .0, (p .1 .0, (p .1 .1 .0, named .0, named .1)))
 
 enum-known-i-3 : tie.Need-enum-known-i-3
 enum-known-i-3 c = search needs
 
 load-word-requires : tie.Need-load-word-requires
-load-word-requires c κs = search needs
+load-word-requires c κs =
+    let arm = c .before .before in
+    let kind = arm .before .before .before in
+    let p = kind .before .before .before .before .before .pre in
+    let named = rw (kind .d .given .1, arm .i3 .given .1) at (p .1 .1 .1) in
+    (p .0, (p .1 .0, (p .1 .1 .0, named .0, named .1)))
 
 enum-known-i-4 : tie.Need-enum-known-i-4
 enum-known-i-4 c = search needs
 
 store-word-requires : tie.Need-store-word-requires
-store-word-requires c κs = search needs
+store-word-requires c κs =
+    let arm = c .before .before in
+    let kind = arm .before .before .before in
+    let p = kind .before .before .before .before .before .pre in
+    let named = rw (kind .d .given .1, arm .i4 .given .1) at (p .1 .1 .1) in
+    (p .0, (p .1 .0, (p .1 .1 .0, named .0, named .1)))
 
 add-to : tie.Need-add-to
 add-to c = search needs
@@ -60,7 +86,10 @@ part-act-end : tie.Need-part-act-end
 part-act-end c = search needs
 
 act-requires : tie.Need-act-requires
-act-requires c κs = search needs
+act-requires c κs =
+    let kind = c .before .before .before in
+    let p = kind .before .before .before .before .before .pre in
+    (rw add-sub-cancel-left (p .1 .1 .0), search needs, rw (kind .d .given .1) at (p .1 .1 .1))
 
 same-length-2 : tie.Need-same-length-2
 same-length-2 c = search needs
@@ -69,7 +98,8 @@ returns-2 : tie.Need-returns-2
 unfolding obeys executes
 returns-2 c =
     let arm = c .before .before .before .before .before in
-    rw (arm .before .before .before .d .given .1, arm .i .given .1) (c .before .before .load .ensures _)
+    let e = c .before .before .load .ensures in
+    (rw (arm .before .before .before .d .given .1, arm .i .given .1) (e .0 _), e .1)
 
 same-length-3 : tie.Need-same-length-3
 same-length-3 c = search needs
@@ -78,7 +108,8 @@ returns-3 : tie.Need-returns-3
 unfolding obeys executes
 returns-3 c =
     let arm = c .before .before .before .before .before in
-    rw (arm .before .before .before .d .given .1, arm .i2 .given .1) (c .before .before .store .ensures _)
+    let e = c .before .before .store .ensures in
+    (rw (arm .before .before .before .d .given .1, arm .i2 .given .1) (e .0 _), e .1)
 
 same-length-4 : tie.Need-same-length-4
 same-length-4 c = search needs
@@ -87,7 +118,8 @@ returns-4 : tie.Need-returns-4
 unfolding obeys executes
 returns-4 c =
     let arm = c .before .before .before .before .before in
-    rw (arm .before .before .before .d .given .1, arm .i3 .given .1) (c .before .before .load-word .ensures _)
+    let e = c .before .before .load-word .ensures in
+    (rw (arm .before .before .before .d .given .1, arm .i3 .given .1) (e .0 _), e .1)
 
 same-length-5 : tie.Need-same-length-5
 same-length-5 c = search needs
@@ -96,7 +128,8 @@ returns-5 : tie.Need-returns-5
 unfolding obeys executes
 returns-5 c =
     let arm = c .before .before .before .before .before in
-    rw (arm .before .before .before .d .given .1, arm .i4 .given .1) (c .before .before .store-word .ensures _)
+    let e = c .before .before .store-word .ensures in
+    (rw (arm .before .before .before .d .given .1, arm .i4 .given .1) (e .0 _), e .1)
 
 same-length-6 : tie.Need-same-length-6
 same-length-6 c = search needs
@@ -104,9 +137,14 @@ same-length-6 c = search needs
 returns-6 : tie.Need-returns-6
 unfolding obeys
 returns-6 c =
-    let arm = c .before .before .before .before in
+    let act = c .before .before in
+    let arm = act .before .before in
     let other = arm .match2 .keys5 in
-    rw (arm .before .before .d .given .1, c .before .before .act .ensures, add-sub-cancel-left, acts-alone)
+    let p = arm .before .before .before .before .before .before .before .pre in
+    let long = rw add-sub-cancel-left at (act .act .kept .0) in (
+      rw (arm .before .before .d .given .1, act .act .ensures .0, add-sub-cancel-left, acts-alone),
+      act .act .ensures .1 ∙ rw add-sub-cancel-left (sym (counter-back _ _ (p .0) _ long)),
+    )
 
 pub obey-spec : {M : Type 1} → statement M
 obey-spec =

@@ -1,15 +1,12 @@
--- The counter is tested against the code segment's size first, then what stands at it is obeyed.
+-- The counter is tested against the code segment's size first, then what stands at it is obeyed; what is fetched names registers alone.
+use mathlib.Core.Path.{sym, _∙_}
 use borrow.Author.Tests.{lt-ltb, le-ltb}
 use Rattle.machine.specs.Tick.{steps}
+use Rattle.savearea.proofs.Laws.Named.{fetched-named}
+use Rattle.parts.proofs.Laws.Counters.{counter-fault}
 use borrow.Author.Needs.{needs}
 use Rattle.tick.proofs.step.Statement.{statement}
 use Rattle.tick.proofs.step.Tie as tie
-
-get-counter-requires : tie.Need-get-counter-requires
-get-counter-requires c κs = search needs
-
-cast-if1 : tie.Need-cast-if1
-cast-if1 c = search needs
 
 add-if1 : tie.Need-add-if1
 add-if1 c = search needs
@@ -21,7 +18,9 @@ fetch-requires : tie.Need-fetch-requires
 fetch-requires c κs = search needs
 
 obey-requires : tie.Need-obey-requires
-obey-requires c κs = search needs
+obey-requires c κs =
+    let p = c .before .before .before .before .before .before .before .pre in
+    (p .0, (p .1 .1 .0, (p .1 .1 .1, rw (c .before .fetch .ensures) (fetched-named _ _))))
 
 same-length : tie.Need-same-length
 same-length c = search needs
@@ -30,7 +29,11 @@ returns : tie.Need-returns
 unfolding steps
 returns c =
     let i = c .before .before .before .before in
-    rw (c .before .before .fault .ensures, ← i .before .get-counter .ensures, lt-ltb _ _ (i .if1 .taken))
+    let p = i .before .before .before .before .pre in
+    let e = c .before .before .fault .ensures in (
+      rw (e, ← p .1 .1 .1, lt-ltb _ _ (i .if1 .taken)),
+      rw e (p .1 .1 .1 ∙ sym (counter-fault _ _ (p .0) _)),
+    )
 
 same-length-2 : tie.Need-same-length-2
 same-length-2 c = search needs
@@ -40,14 +43,14 @@ unfolding steps
 returns-2 c =
     let d = c .before .before .before .before in
     let i = d .before .before in
-    rw (c .before .before .obey .ensures, d .fetch .ensures, ← i .before .get-counter .ensures, le-ltb _ _ (i .if1 .left))
+    let p = i .before .before .before .before .pre in
+    let e = c .before .before .obey .ensures in
+    (rw (e .0, d .fetch .ensures, ← p .1 .1 .1, le-ltb _ _ (i .if1 .left)), e .1)
 
 pub step-spec : {M : Type 1} → statement M
 step-spec =
     tie.close
     (tie.spec
-    get-counter-requires
-    cast-if1
     add-if1
     fault-requires
     fetch-requires

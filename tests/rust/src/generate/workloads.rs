@@ -86,6 +86,35 @@ pub fn in_no_order() -> Policy {
     policy
 }
 
+/// 32 segments, 8 partitions and 32 slots in turn, each of so many ticks. A partition has four segments, one behind the other: its code, its save segment, one
+/// that it may write and one that it may read.
+pub fn in_turn(ticks: u16) -> Policy {
+    let mut policy = Policy { segments: 32, partitions: 8, slots: 32, slot_ticks: [ticks; 32], ..Policy::ZERO };
+    (policy.base, policy.size) = (std::array::from_fn(|s| 256 * s as u16), std::array::from_fn(|s| [64, 44, 256, 256][s % 4]));
+    policy.slot_partition = std::array::from_fn(|slot| slot as u8 % 8);
+    for p in 0..8 {
+        let [code, save, own, other] = std::array::from_fn(|s| 4 * p + s);
+        (policy.code[p], policy.save[p]) = (code as u8, save as u8);
+        [(code, 1), (own, 3), (other, 1)].iter().for_each(|&(s, mode)| policy.set_right(p, s, mode));
+        [(code, save), (own, save), (other, save), (code, own), (save, own), (other, own)]
+            .iter()
+            .for_each(|&(from, to)| policy.set_flow(from, to, true));
+    }
+    policy
+}
+
+/// A policy's memory with a program for each of its partitions.
+pub fn each_with(policy: &Policy, program: impl Fn(usize) -> Vec<[u8; 4]>) -> Vec<u8> {
+    let mut memory = vec![0; MEMORY];
+    (0..policy.partitions as usize).for_each(|p| put(&mut memory, policy, policy.code[p] as usize, &program(p)));
+    memory
+}
+
+/// Halted or waiting from the first tick on, by turns.
+pub fn idle(partition: usize) -> Vec<[u8; 4]> {
+    vec![[[0, 0, 0, 0], [10, 0, 0, 0]][partition % 2]]
+}
+
 /// Eight partitions in slots of 16 ticks, for 8 interrupts each.
 pub fn eight() -> Policy {
     let mut text = String::new();

@@ -1,8 +1,8 @@
--- A field that ends after its decimal digits has no x there; otherwise the code asks what the definition asks.
-use mathlib.Core.Path.{refl}
+-- A byte that ends a field is no x, so decimal digits that it ends are no mark; otherwise the code asks what the
+-- definition asks.
 use borrow.Author.Needs.{needs}
 use borrow.Author.Tests.{not-true, not-false}
-use Rattle.text.proofs.Laws.Scan.{decimal-digits, ended-digits, hex-digits}
+use Rattle.text.proofs.Laws.Scan.{ended-digits, open-digits, hex-digits}
 use Rattle.digits.proofs.number.digits_at.Statement.{statement}
 use Rattle.digits.proofs.number.digits_at.Tie as tie
 
@@ -10,15 +10,17 @@ digits-from-requires : tie.Need-digits-from-requires
 digits-from-requires c κs = search needs
 
 returns : tie.Need-returns
-returns c = ended-digits _ _ (c .before .before .before .digits-from .ensures) refl (c .if1 .taken)
+returns c =
+    let digits = c .before .before in
+    ended-digits _ _ _ (digits .digits-from .ensures) (digits .before .before .pre .1) (c .if1 .taken)
 
 add-if2 : tie.Need-add-if2
 add-if2 c = search needs
 
 returns-2 : tie.Need-returns-2
 returns-2 c =
-    let digits = c .before .before .before .before .before .before .before in
-    decimal-digits _ _ (digits .digits-from .ensures) refl (not-true _ (c .if2 .taken))
+    let other = c .before .before .before .before in
+    open-digits _ _ _ (other .before .before .digits-from .ensures) (other .if1 .left) (not-true _ (c .if2 .taken))
 
 add-digits : tie.Need-add-digits
 add-digits c = search needs
@@ -28,9 +30,9 @@ hex-from-requires c κs = search needs
 
 returns-3 : tie.Need-returns-3
 returns-3 c =
-    let mark = c .before .before .before in
-    let digits = mark .before .before .before .before .before .before .before in
-    hex-digits _ _ (digits .digits-from .ensures) (not-false _ (mark .if2 .left)) (c .before .before .hex-from .ensures) refl
+    let mark = c .before .before in
+    let digits = mark .before .before .before .before .before .before in
+    hex-digits _ _ _ (digits .digits-from .ensures) (not-false _ (mark .if2 .left)) (c .before .hex-from .ensures)
 
 pub digits-at-spec : {M : Type 1} → statement M
 digits-at-spec =

@@ -7,8 +7,7 @@ use native.Mathlib.Omega.{arith}
 use lib.ListN.{length, drop, getD}
 use Rattle.text.specs.Digits.{digitsRead}
 use Rattle.text.specs.Number.{ten}
-use Rattle.text.proofs.Laws.Scan.{digitsOn, on-begin, on-past, on-other, on-more}
-use Rattle.text.proofs.Laws.Scan.{digit-known, digit-is, no-digit-is}
+use Rattle.text.proofs.Laws.Scan.{digitsOn, on-begin, on-past, on-other, on-more, digit-known, digit-other}
 use Rattle.digits.proofs.scan.digits_from.Statement.{statement}
 use Rattle.digits.proofs.scan.digits_from.Tie as tie
 
@@ -25,37 +24,34 @@ loop-holds c = (on-begin ten _ _, omega arith)
 shared-slice-read-b : tie.Need-shared-slice-read-b Inv-loop μ-loop
 shared-slice-read-b c = search needs
 
+cast-wrapping-sub-u32 : tie.Need-cast-wrapping-sub-u32 Inv-loop μ-loop
+cast-wrapping-sub-u32 c = omega (arith, c .shared-slice-known2 .given (c .before .before .loop .i))
+
+wrapping-sub-u32-requires : tie.Need-wrapping-sub-u32-requires Inv-loop μ-loop
+wrapping-sub-u32-requires c κs = search needs
+
 cast-t12 : tie.Need-cast-t12 Inv-loop μ-loop
 cast-t12 c = search needs
 
 returns : tie.Need-returns Inv-loop μ-loop
 returns c =
-    let test = c .before .before in
-    let h = test .before .loop in
-    let l = test .before .before .args .text .now in
+    let slice = c .before .before in
+    let h = slice .before .before .loop in
+    let l = slice .before .before .before .before .args .text .now in
     sym
     (h .inv .0
-    ∙ on-other ten l (h .value) (h .i) (h .inv .1) (test .loop-test .taken) (no-digit-is (getD l (h .i) 0) (c .if1 .taken)))
+    ∙ on-other ten l (h .value) (h .i) (h .inv .1) (slice .before .loop-test .taken)
+    (digit-other (getD l (h .i) 0) (omega (arith, slice .shared-slice-known2 .given (h .i))) (search needs)
+    (c .before .wrapping-sub-u32 .ensures) (c .if1 .taken)))
 
 mul-value : tie.Need-mul-value Inv-loop μ-loop
 mul-value c = search needs
 
-sub-value : tie.Need-sub-value Inv-loop μ-loop
-sub-value c =
-    let head = c .before .before .before in
-    digit-known (getD (head .before .args .text .now) (head .loop .i) 0) (c .if1 .left) .0
-
 cast-value : tie.Need-cast-value Inv-loop μ-loop
-cast-value c =
-    let head = c .before .before .before in
-    let d = digit-known (getD (head .before .args .text .now) (head .loop .i) 0) (c .if1 .left) in
-    search needs
+cast-value c = search needs
 
 add-value : tie.Need-add-value Inv-loop μ-loop
-add-value c =
-    let head = c .before .before .before in
-    let d = digit-known (getD (head .before .args .text .now) (head .loop .i) 0) (c .if1 .left) in
-    omega (arith, head .loop .inv .1)
+add-value c = omega (arith, c .before .before .before .before .loop .inv .1)
 
 add-i : tie.Need-add-i Inv-loop μ-loop
 add-i c = search needs
@@ -65,10 +61,13 @@ loop-less c = search needs
 
 loop-again : tie.Need-loop-again Inv-loop μ-loop
 loop-again c =
-    let head = c .before .before .before in
-    let h = head .loop in
-    let l = head .before .args .text .now in (
-      h .inv .0 ∙ on-more ten l (h .value) (h .i) (omega arith) (digit-is (getD l (h .i) 0) (c .if1 .left)),
+    let slice = c .before .before in
+    let h = slice .before .before .loop in
+    let l = slice .before .before .before .before .args .text .now in
+    let known =
+    digit-known (getD l (h .i) 0) (omega (arith, slice .shared-slice-known2 .given (h .i))) (search needs)
+    (c .before .wrapping-sub-u32 .ensures) (c .if1 .left) in (
+      h .inv .0 ∙ rw (← known .1) (on-more ten l (h .value) (h .i) (slice .before .loop-test .taken) (known .0)),
       mod-lt _ (omega arith),
     )
 
@@ -87,10 +86,11 @@ digits-from-spec =
     μ-loop
     loop-holds
     shared-slice-read-b
+    cast-wrapping-sub-u32
+    wrapping-sub-u32-requires
     cast-t12
     returns
     mul-value
-    sub-value
     cast-value
     add-value
     add-i

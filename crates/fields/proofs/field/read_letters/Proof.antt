@@ -1,96 +1,74 @@
--- At the line's end there is no field; otherwise the field is the letters that stand there, or none of the three.
+-- Behind the text there is no field; otherwise the field is the letters that stand there with the line end, or none of
+-- the three.
 use mathlib.Core.Path.{refl, sym, _∙_}
 use borrow.Author.Needs.{needs}
 use native.Mathlib.Omega.{arith}
 use Rattle.text.specs.Bytes.{bytesOf, same}
+use Rattle.text.specs.Cut.{lineEnd}
 use Rattle.text.specs.Number.{letters}
 use Rattle.text.specs.Places.{unparted}
-use Rattle.text.specs.Readers.{lettersRead}
-use Rattle.text.proofs.Laws.Ends.{after-past, after-line}
-use Rattle.text.proofs.Laws.Readers.{taken-none}
-use Rattle.text.proofs.Laws.Words.{letters-known, letters-none}
+use Rattle.text.proofs.Laws.Words.{field-past, field-known, field-other, letters-none}
 use Rattle.fields.proofs.field.read_letters.Statement.{statement}
 use Rattle.fields.proofs.field.read_letters.Tie as tie
 
 returns : tie.Need-returns
-unfolding lettersRead
-returns c = taken-none _ (after-past _ _ _ (c .if1 .taken))
-
-shared-slice-read-if2 : tie.Need-shared-slice-read-if2
-shared-slice-read-if2 c = search needs
-
-returns-2 : tie.Need-returns-2
-unfolding lettersRead
-returns-2 c = taken-none _ (after-line _ _ _ (c .before .before .if1 .left) (c .if2 .taken))
-
-add-from : tie.Need-add-from
-add-from c = search needs
+returns c = field-past _ _ lineEnd refl letters (omega arith)
 
 slice-aggregate-stands : tie.Need-slice-aggregate-stands
 slice-aggregate-stands c = search needs
 
 stands-requires : tie.Need-stands-requires
-unfolding unparted
-stands-requires c κs = (omega arith, refl)
+stands-requires c κs = search needs
 
-add-t20 : tie.Need-add-t20
-add-t20 c = search needs
+add-t16 : tie.Need-add-t16
+add-t16 c = search needs
 
-returns-3 : tie.Need-returns-3
-unfolding letters same
-returns-3 c =
-    let test = c .before in
-    let there = test .before .before in
-    letters-known _ _ (there .before .before .if1 .left) (there .if2 .left) (bytesOf "r")
-    (sym (test .stands .ensures) ∙ c .if3 .taken)
+returns-2 : tie.Need-returns-2
+unfolding letters same unparted
+returns-2 c =
+    field-known _ _ lineEnd refl (bytesOf "r") refl (sym (c .before .stands .ensures) ∙ c .if2 .taken) letters
 
 slice-aggregate-stands-2 : tie.Need-slice-aggregate-stands-2
 slice-aggregate-stands-2 c = search needs
 
 stands-requires-2 : tie.Need-stands-requires-2
-unfolding unparted
-stands-requires-2 c κs = (omega arith, refl)
+stands-requires-2 c κs = search needs
 
-add-t26 : tie.Need-add-t26
-add-t26 c = search needs
+add-t22 : tie.Need-add-t22
+add-t22 c = search needs
 
-returns-4 : tie.Need-returns-4
-unfolding letters same
-returns-4 c =
-    let test = c .before in
-    let there = test .before .before .before .before .before in
-    letters-known _ _ (there .before .before .if1 .left) (there .if2 .left) (bytesOf "w")
-    (sym (test .stands2 .ensures) ∙ c .if4 .taken)
+returns-3 : tie.Need-returns-3
+unfolding letters same unparted
+returns-3 c =
+    field-known _ _ lineEnd refl (bytesOf "w") refl (sym (c .before .stands2 .ensures) ∙ c .if3 .taken) letters
 
 slice-aggregate-stands-3 : tie.Need-slice-aggregate-stands-3
 slice-aggregate-stands-3 c = search needs
 
 stands-requires-3 : tie.Need-stands-requires-3
-unfolding unparted
-stands-requires-3 c κs = (omega arith, refl)
+stands-requires-3 c κs = search needs
 
-add-t32 : tie.Need-add-t32
-add-t32 c = search needs
+add-t28 : tie.Need-add-t28
+add-t28 c = search needs
+
+returns-4 : tie.Need-returns-4
+unfolding letters same unparted
+returns-4 c =
+    field-known _ _ lineEnd refl (bytesOf "rw") refl (sym (c .before .stands3 .ensures) ∙ c .if4 .taken) letters
 
 returns-5 : tie.Need-returns-5
-unfolding letters same
+unfolding letters same unparted
 returns-5 c =
-    let test = c .before in
-    let there = test .before .before .before .before .before .before .before .before in
-    letters-known _ _ (there .before .before .if1 .left) (there .if2 .left) (bytesOf "rw")
-    (sym (test .stands3 .ensures) ∙ c .if5 .taken)
-
-returns-6 : tie.Need-returns-6
-unfolding letters
-returns-6 c =
     let test2 = c .before .before .before in
     let test1 = test2 .before .before .before in
-    let there = test1 .before .before .before in
-    letters-none _ _ (there .before .before .if1 .left) (there .if2 .left)
-    (rw (
-      sym (test1 .before .stands .ensures) ∙ test1 .if3 .left,
-      sym (test2 .before .stands2 .ensures) ∙ test2 .if4 .left,
-      sym (c .before .stands3 .ensures) ∙ c .if5 .left,
+    let a = test1 .before .before .before .before .before .args in
+    let other = field-other (a .text .now) (a .c) lineEnd refl in
+    letters-none _ _
+    (λ e.
+    rw (
+      other (bytesOf "r") refl (sym (test1 .before .stands .ensures) ∙ test1 .if2 .left) e,
+      other (bytesOf "w") refl (sym (test2 .before .stands2 .ensures) ∙ test2 .if3 .left) e,
+      other (bytesOf "rw") refl (sym (c .before .stands3 .ensures) ∙ c .if4 .left) e,
     ))
 
 pub read-letters-spec : {M : Type 1} → statement M
@@ -98,19 +76,16 @@ read-letters-spec =
     tie.close
     (tie.spec
     returns
-    shared-slice-read-if2
-    returns-2
-    add-from
     slice-aggregate-stands
     stands-requires
-    add-t20
-    returns-3
+    add-t16
+    returns-2
     slice-aggregate-stands-2
     stands-requires-2
-    add-t26
-    returns-4
+    add-t22
+    returns-3
     slice-aggregate-stands-3
     stands-requires-3
-    add-t32
-    returns-5
-    returns-6)
+    add-t28
+    returns-4
+    returns-5)

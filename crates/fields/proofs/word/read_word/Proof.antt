@@ -1,12 +1,11 @@
--- A field that is a word has that word's kind and ends after its length; a field that is none of them is asked for its
--- end.
+-- The word that stands there with its tab is the field, and has its kind; if none of them does, there is no record word.
 use mathlib.Core.Path.{refl, sym, _∙_}
 use borrow.Author.Needs.{needs}
-use Rattle.text.proofs.Laws.Readers.{word-past}
-use Rattle.text.proofs.Laws.Words.{word-known, word-unknown}
-use Rattle.text.specs.Places.{unparted}
 use Rattle.text.specs.Bytes.{bytesOf, same}
+use Rattle.text.specs.Cut.{tab}
 use Rattle.text.specs.Lines.{wordOf}
+use Rattle.text.specs.Places.{unparted}
+use Rattle.text.proofs.Laws.Words.{word-past, word-known, word-unknown, field-other}
 use Rattle.fields.proofs.word.read_word.Statement.{statement}
 use Rattle.fields.proofs.word.read_word.Tie as tie
 
@@ -14,14 +13,13 @@ found-requires : tie.Need-found-requires
 found-requires c κs = search needs
 
 returns : tie.Need-returns
-returns c = c .found .ensures ∙ sym (word-past _ _ (c .before .if1 .taken))
+returns c = c .found .ensures ∙ word-past _ _ (c .before .if1 .taken)
 
 slice-aggregate-stands : tie.Need-slice-aggregate-stands
 slice-aggregate-stands c = search needs
 
 stands-requires : tie.Need-stands-requires
-unfolding unparted
-stands-requires c κs = (c .before .if1 .left, refl)
+stands-requires c κs = search needs
 
 add-found : tie.Need-add-found
 add-found c = search needs
@@ -30,20 +28,17 @@ found-requires-2 : tie.Need-found-requires-2
 found-requires-2 c κs = search needs
 
 returns-2 : tie.Need-returns-2
-unfolding wordOf same
+unfolding wordOf same unparted
 returns-2 c =
     let test = c .before in
     c .found2 .ensures
-    ∙ word-known _ _ (bytesOf "flow") (sym (test .before .stands .ensures) ∙ test .if2 .taken)
+    ∙ word-known _ _ (bytesOf "flow") refl (sym (test .before .stands .ensures) ∙ test .if2 .taken)
 
 slice-aggregate-stands-2 : tie.Need-slice-aggregate-stands-2
 slice-aggregate-stands-2 c = search needs
 
 stands-requires-2 : tie.Need-stands-requires-2
-unfolding unparted
-stands-requires-2 c κs =
-    let test1 = c .before in
-    (test1 .before .before .before .if1 .left, refl)
+stands-requires-2 c κs = search needs
 
 add-found-2 : tie.Need-add-found-2
 add-found-2 c = search needs
@@ -52,21 +47,17 @@ found-requires-3 : tie.Need-found-requires-3
 found-requires-3 c κs = search needs
 
 returns-3 : tie.Need-returns-3
-unfolding wordOf same
+unfolding wordOf same unparted
 returns-3 c =
     let test = c .before in
     c .found3 .ensures
-    ∙ word-known _ _ (bytesOf "right") (sym (test .before .stands2 .ensures) ∙ test .if3 .taken)
+    ∙ word-known _ _ (bytesOf "right") refl (sym (test .before .stands2 .ensures) ∙ test .if3 .taken)
 
 slice-aggregate-stands-3 : tie.Need-slice-aggregate-stands-3
 slice-aggregate-stands-3 c = search needs
 
 stands-requires-3 : tie.Need-stands-requires-3
-unfolding unparted
-stands-requires-3 c κs =
-    let test2 = c .before in
-    let test1 = test2 .before .before .before in
-    (test1 .before .before .before .if1 .left, refl)
+stands-requires-3 c κs = search needs
 
 add-found-3 : tie.Need-add-found-3
 add-found-3 c = search needs
@@ -75,22 +66,17 @@ found-requires-4 : tie.Need-found-requires-4
 found-requires-4 c κs = search needs
 
 returns-4 : tie.Need-returns-4
-unfolding wordOf same
+unfolding wordOf same unparted
 returns-4 c =
     let test = c .before in
     c .found4 .ensures
-    ∙ word-known _ _ (bytesOf "slot") (sym (test .before .stands3 .ensures) ∙ test .if4 .taken)
+    ∙ word-known _ _ (bytesOf "slot") refl (sym (test .before .stands3 .ensures) ∙ test .if4 .taken)
 
 slice-aggregate-stands-4 : tie.Need-slice-aggregate-stands-4
 slice-aggregate-stands-4 c = search needs
 
 stands-requires-4 : tie.Need-stands-requires-4
-unfolding unparted
-stands-requires-4 c κs =
-    let test3 = c .before in
-    let test2 = test3 .before .before .before in
-    let test1 = test2 .before .before .before in
-    (test1 .before .before .before .if1 .left, refl)
+stands-requires-4 c κs = search needs
 
 add-found-4 : tie.Need-add-found-4
 add-found-4 c = search needs
@@ -99,23 +85,17 @@ found-requires-5 : tie.Need-found-requires-5
 found-requires-5 c κs = search needs
 
 returns-5 : tie.Need-returns-5
-unfolding wordOf same
+unfolding wordOf same unparted
 returns-5 c =
     let test = c .before in
     c .found5 .ensures
-    ∙ word-known _ _ (bytesOf "segment") (sym (test .before .stands4 .ensures) ∙ test .if5 .taken)
+    ∙ word-known _ _ (bytesOf "segment") refl (sym (test .before .stands4 .ensures) ∙ test .if5 .taken)
 
 slice-aggregate-stands-5 : tie.Need-slice-aggregate-stands-5
 slice-aggregate-stands-5 c = search needs
 
 stands-requires-5 : tie.Need-stands-requires-5
-unfolding unparted
-stands-requires-5 c κs =
-    let test4 = c .before in
-    let test3 = test4 .before .before .before in
-    let test2 = test3 .before .before .before in
-    let test1 = test2 .before .before .before in
-    (test1 .before .before .before .if1 .left, refl)
+stands-requires-5 c κs = search needs
 
 add-found-5 : tie.Need-add-found-5
 add-found-5 c = search needs
@@ -124,33 +104,34 @@ found-requires-6 : tie.Need-found-requires-6
 found-requires-6 c κs = search needs
 
 returns-6 : tie.Need-returns-6
-unfolding wordOf same
+unfolding wordOf same unparted
 returns-6 c =
     let test = c .before in
     c .found6 .ensures
-    ∙ word-known _ _ (bytesOf "partition") (sym (test .before .stands5 .ensures) ∙ test .if6 .taken)
-
-field-end-requires : tie.Need-field-end-requires
-field-end-requires c κs = search needs
+    ∙ word-known _ _ (bytesOf "partition") refl (sym (test .before .stands5 .ensures) ∙ test .if6 .taken)
 
 found-requires-7 : tie.Need-found-requires-7
 found-requires-7 c κs = search needs
 
 returns-7 : tie.Need-returns-7
-unfolding wordOf
+unfolding wordOf same unparted
 returns-7 c =
-    let test5 = c .before .before in
+    let test5 = c .before in
     let test4 = test5 .before .before .before in
     let test3 = test4 .before .before .before in
     let test2 = test3 .before .before .before in
     let test1 = test2 .before .before .before in
-    c .found7 .ensures ∙ word-unknown _ _ (c .before .field-end .ensures)
-    (rw (
-      sym (test1 .before .stands .ensures) ∙ test1 .if2 .left,
-      sym (test2 .before .stands2 .ensures) ∙ test2 .if3 .left,
-      sym (test3 .before .stands3 .ensures) ∙ test3 .if4 .left,
-      sym (test4 .before .stands4 .ensures) ∙ test4 .if5 .left,
-      sym (test5 .before .stands5 .ensures) ∙ test5 .if6 .left,
+    let a = test1 .before .before .before .before .before .args in
+    let other = field-other (a .text .now) (a .c) tab refl in
+    c .found7 .ensures
+    ∙ word-unknown _ _
+    (λ e.
+    rw (
+      other (bytesOf "flow") refl (sym (test1 .before .stands .ensures) ∙ test1 .if2 .left) e,
+      other (bytesOf "right") refl (sym (test2 .before .stands2 .ensures) ∙ test2 .if3 .left) e,
+      other (bytesOf "slot") refl (sym (test3 .before .stands3 .ensures) ∙ test3 .if4 .left) e,
+      other (bytesOf "segment") refl (sym (test4 .before .stands4 .ensures) ∙ test4 .if5 .left) e,
+      other (bytesOf "partition") refl (sym (test5 .before .stands5 .ensures) ∙ test5 .if6 .left) e,
     ))
 
 pub read-word-spec : {M : Type 1} → statement M
@@ -184,6 +165,5 @@ read-word-spec =
     add-found-5
     found-requires-6
     returns-6
-    field-end-requires
     found-requires-7
     returns-7)

@@ -14,23 +14,23 @@ returns : tie.Need-returns
 unfolding pendOutcome afterPend
 returns c = rw (ne-eqb _ _ (c .if1 .taken)) (refl, refl)
 
+cast-partitions : tie.Need-cast-partitions
+cast-partitions c = search needs
+
 passes-test-requires : tie.Need-passes-test-requires
 passes-test-requires c κs = search needs
 
 returns-2 : tie.Need-returns-2
 unfolding pendOutcome afterPend
 returns-2 c =
-    rw (eq-eqb _ _ (c .before .before .if1 .left), sym (c .before .passes-test .ensures) ∙ not-true _ (c .if2 .taken)) (refl, refl)
-
-cast-if3 : tie.Need-cast-if3
-cast-if3 c = search needs
+    rw (eq-eqb _ _ (c .before .before .before .before .before .if1 .left), sym (c .before .passes-test .ensures) ∙ not-true _ (c .if2 .taken)) (refl, refl)
 
 returns-3 : tie.Need-returns-3
 unfolding pendOutcome afterPend
 returns-3 c =
     let sound = c .before in
     rw (
-      eq-eqb _ _ (sound .before .before .if1 .left),
+      eq-eqb _ _ (sound .before .before .before .before .before .if1 .left),
       sym (sound .before .passes-test .ensures) ∙ not-false _ (sound .if2 .left),
       le-leb _ _ (c .if3 .taken),
     )
@@ -41,12 +41,18 @@ unfolding pendOutcome afterPend
 returns-4 c =
     let sound = c .before .before in
     rw (
-      eq-eqb _ _ (sound .before .before .if1 .left),
+      eq-eqb _ _ (sound .before .before .before .before .before .if1 .left),
       sym (sound .before .passes-test .ensures) ∙ not-false _ (sound .if2 .left),
       lt-leb _ _ (c .before .if3 .left),
       lt-ltb _ _ (c .if4 .taken),
     )
     (refl, refl)
+
+slice-aggregate-save-from : tie.Need-slice-aggregate-save-from
+slice-aggregate-save-from c = search needs
+
+slice-aggregate-save-from-2 : tie.Need-slice-aggregate-save-from-2
+slice-aggregate-save-from-2 c = search needs
 
 save-from-requires : tie.Need-save-from-requires
 save-from-requires c κs = search needs
@@ -78,11 +84,11 @@ returns-5 c =
     let stored = c .before .before in
     let read = stored .before .before in
     let found = read .before .before in
-    let line = found .before .before .before .before .before .before in
+    let line = found .before .before .before in
     let sound = line .before .before in
-    let small : sound .before .before .before .before .args .line < 8 = omega (arith, line .if4 .left) in
+    let small : sound .before .before .before .before .before .before .before .args .line < 8 = omega (arith, line .if4 .left) in
     rw (
-      eq-eqb _ _ (sound .before .before .if1 .left),
+      eq-eqb _ _ (sound .before .before .before .before .before .if1 .left),
       sym (sound .before .passes-test .ensures) ∙ not-false _ (sound .if2 .left),
       lt-leb _ _ (line .before .if3 .left),
       le-ltb _ _ (line .if4 .left),
@@ -94,11 +100,13 @@ pend-spec =
     tie.close
     (tie.spec
     returns
+    cast-partitions
     passes-test-requires
     returns-2
-    cast-if3
     returns-3
     returns-4
+    slice-aggregate-save-from
+    slice-aggregate-save-from-2
     save-from-requires
     cast-at
     add-at

@@ -1,9 +1,11 @@
--- Each turn is one tick more of the partition, at the next count; where one does nothing, those that are left do nothing either.
+-- Each turn is one tick more of the partition, at the next count and with the counter that the last one left; where one does nothing, those that are left do nothing either.
 use mathlib.Core.Path.{_≡_, refl, sym, _∙_}
 use native.Mathlib.Omega.{arith}
 use borrow.Author.Needs.{needs}
 use borrow.Author.Tests.{not-true}
 use lib.ListN.{length}
+use Rattle.machine.specs.Save.{counter}
+use Rattle.parts.specs.Parts.{savedAt}
 use Rattle.tick.specs.Seat.{seatOf}
 use Rattle.tick.proofs.Laws.Reach.{save-inside}
 use Rattle.kernel.proofs.Laws.Ticks.{Going, by-numbers, none-yet, next-count, one-more, all-done, idle-rest}
@@ -11,11 +13,13 @@ use Rattle.kernel.proofs.running.stretch.Statement.{statement}
 use Rattle.kernel.proofs.running.stretch.Tie as tie
 
 abbrev Inv-loop : tie.InvT-loop
-Inv-loop memory₀ base size reads writes segments code save count n from start room end left₀ memory left =
-    (length memory ≡ length memory₀) × Going (seatOf base size reads writes segments) code save count n memory₀ left memory
+Inv-loop memory₀ base size reads writes segments code save count n from start room end pc₀ left₀ memory pc left =
+    (length memory ≡ length memory₀)
+    × Going (seatOf base size reads writes segments) code save count n memory₀ left memory
+    × (pc ≡ counter (savedAt memory from))
 
 abbrev μ-loop : tie.MeasureT-loop
-μ-loop memory₀ base size reads writes segments code save count n from start room end left₀ memory left = left
+μ-loop memory₀ base size reads writes segments code save count n from start room end pc₀ left₀ memory pc left = left
 
 half-at-requires : tie.Need-half-at-requires Inv-loop μ-loop
 half-at-requires c κs = search needs
@@ -38,8 +42,13 @@ cast-room c = search needs
 wrapping-add-u32-requires : tie.Need-wrapping-add-u32-requires Inv-loop μ-loop
 wrapping-add-u32-requires c κs = search needs
 
+get-counter-requires : tie.Need-get-counter-requires Inv-loop μ-loop
+get-counter-requires c κs =
+    let r = c .before .before in
+    rw (r .before .before .half-at .ensures) (save-inside (r .before .before .before .before .before .before .pre .0))
+
 loop-holds : tie.Need-loop-holds Inv-loop μ-loop
-loop-holds c = (refl, none-yet _ _ _ _ _ _)
+loop-holds c = (refl, none-yet _ _ _ _ _ _, c .get-counter .ensures)
 
 wrapping-sub-u32-requires : tie.Need-wrapping-sub-u32-requires Inv-loop μ-loop
 wrapping-sub-u32-requires c κs = search needs
@@ -47,10 +56,10 @@ wrapping-sub-u32-requires c κs = search needs
 tick-requires : tie.Need-tick-requires Inv-loop μ-loop
 tick-requires c κs =
     let b = c .before .before .before in
-    let r = b .before .before in
+    let r = b .before .before .before .before in
     let p = r .before .before .before .before .before .before .pre .0 in (
       rw (b .loop .inv .0, r .before .before .half-at .ensures) (save-inside p),
-      (rw (b .loop .inv .0, r .before .half-at2 .ensures, r .half-at3 .ensures) (p .every .inside _ (p .code-there)), rw (b .loop .inv .0) (p .every)),
+      (rw (b .loop .inv .0, r .before .half-at2 .ensures, r .half-at3 .ensures) (p .every .inside _ (p .code-there)), (rw (b .loop .inv .0) (p .every), b .loop .inv .2)),
     )
 
 same-length : tie.Need-same-length Inv-loop μ-loop
@@ -58,9 +67,9 @@ same-length c = search needs
 
 returns : tie.Need-returns Inv-loop μ-loop
 returns c =
-    let t = c .before .before .before .tick in
-    let h = c .before .before .before .before .before .before .before in
-    let r = h .before .before in
+    let t = c .before .before .before .before .tick in
+    let h = c .before .before .before .before .before .before .before .before in
+    let r = h .before .before .before .before in
     let f = r .before .before .half-at .ensures in
     idle-rest _ _ _ _ _ _ _ _ _ _ (h .loop .inv .1)
     (rw (← f) (sym (t .ensures .1) ∙ not-true _ (c .if1 .taken)))
@@ -74,10 +83,10 @@ loop-less c = search needs
 
 loop-again : tie.Need-loop-again Inv-loop μ-loop
 loop-again c =
-    let t = c .before .before .before .tick in
-    let d = c .before .before .before .before .before in
+    let t = c .before .before .before .before .tick in
+    let d = c .before .before .before .before .before .before in
     let l = d .before in
-    let e = l .before .before in
+    let e = l .before .before .before .before in
     let r = e .before in
     let start = r .before .before .before .before .before .before in
     let g = l .before .loop .inv .1 in
@@ -85,6 +94,7 @@ loop-again c =
       search needs,
       one-more _ _ _ _ _ _ _ _ _ _ (search (needs, start .fits)) (l .loop-test .taken) at g
           (by-numbers _ _ _ _ _ _ _ _ _ (r .before .before .half-at .ensures) (r .before .half-at2 .ensures) (r .half-at3 .ensures) (t .ensures .0)),
+      t .ensures .2,
     )
 
 same-length-2 : tie.Need-same-length-2 Inv-loop μ-loop
@@ -109,6 +119,7 @@ stretch-spec =
     half-at-requires-3
     cast-room
     wrapping-add-u32-requires
+    get-counter-requires
     loop-holds
     wrapping-sub-u32-requires
     tick-requires

@@ -7,12 +7,6 @@ use Rattle.savearea.proofs.line.interrupt.Tie as tie
 get-half-requires : tie.Need-get-half-requires
 get-half-requires c κs = search needs
 
-cast-from : tie.Need-cast-from
-cast-from c = search needs
-
-get-half-requires-2 : tie.Need-get-half-requires-2
-get-half-requires-2 c κs = search needs
-
 cast-handler : tie.Need-cast-handler
 cast-handler c = search needs
 
@@ -23,7 +17,7 @@ byte-at-requires-2 : tie.Need-byte-at-requires-2
 byte-at-requires-2 c κs = search needs
 
 take-line-requires : tie.Need-take-line-requires
-take-line-requires c κs = rw (c .before .before .byte-at .ensures, c .byte-at2 .ensures) (c .before .before .before .before .before .before .before .before .before .pre)
+take-line-requires c κs = rw (c .before .before .byte-at .ensures, c .byte-at2 .ensures) (c .before .before .before .before .before .before .before .pre .0)
 
 put-requires : tie.Need-put-requires
 put-requires c κs = search needs
@@ -59,7 +53,6 @@ returns c =
     let enabled = taken .before in
     let lines = enabled .before .before in
     let handler = lines .before .before in
-    let from = handler .before .before in
     rw (
       state .put3 .ensures,
       inside .put2 .ensures,
@@ -71,8 +64,8 @@ returns c =
       taken .take-line .ensures .1,
       enabled .byte-at2 .ensures,
       lines .byte-at .ensures,
-      handler .get-half2 .ensures,
-      from .get-half .ensures,
+      handler .get-half .ensures,
+      ← handler .before .before .before .pre .1,
     )
 
 pub interrupt-spec : {M : Type 1} → statement M
@@ -80,8 +73,6 @@ interrupt-spec =
     tie.close
     (tie.spec
     get-half-requires
-    cast-from
-    get-half-requires-2
     cast-handler
     byte-at-requires
     byte-at-requires-2

@@ -1,28 +1,30 @@
--- The counter read, and put back with 4 added.
+-- The counter handed in, put with 4 added; modulo 65,536 that is what is read there.
+use Prim.Native.Nat.{_+_}
+use mathlib.Core.Path.{sym}
 use Rattle.machine.specs.Local.{advanced}
+use Rattle.savearea.proofs.Laws.Counters.{counter-put}
 use borrow.Author.Needs.{needs}
 use Rattle.savearea.proofs.step.advance.Statement.{statement}
 use Rattle.savearea.proofs.step.advance.Tie as tie
 
-get-half-requires : tie.Need-get-half-requires
-get-half-requires c κs = search needs
-
-cast-at : tie.Need-cast-at
-cast-at c = search needs
-
-add-put-half : tie.Need-add-put-half
-add-put-half c = search needs
+add-n : tie.Need-add-n
+add-n c = search needs
 
 put-half-requires : tie.Need-put-half-requires
 put-half-requires c κs = search needs
+
+cast-result : tie.Need-cast-result
+cast-result c = search needs
 
 same-length : tie.Need-same-length
 same-length c = search needs
 
 returns : tie.Need-returns
 unfolding advanced
-returns c = rw (c .before .before .put-half .ensures, c .before .before .before .before .get-half .ensures)
+returns c =
+    let put = c .before .before in
+    let start = put .before .before .before in
+    (rw (put .put-half .ensures, start .pre .0), rw (put .put-half .ensures) (sym (counter-put _ (start .args .pc + 4) (start .pre .1))))
 
 pub advance-spec : {M : Type 1} → statement M
-advance-spec =
-    tie.close (tie.spec get-half-requires cast-at add-put-half put-half-requires same-length returns)
+advance-spec = tie.close (tie.spec add-n put-half-requires cast-result same-length returns)

@@ -1,6 +1,8 @@
 -- The right decides first, and what is lent to a load is what `looks` shows of that segment.
+use mathlib.Core.Path.{sym, _∙_}
 use Rattle.machine.specs.Tick.{looks, loads}
 use Rattle.parts.specs.Parts.{loadedFrom}
+use Rattle.parts.proofs.Laws.Counters.{counter-fault}
 use Rattle.tick.proofs.Laws.Reach.{reach-base, reach-size, reach-inside}
 use borrow.Author.Needs.{needs}
 use Rattle.tick.proofs.loading.load.Statement.{statement}
@@ -12,18 +14,19 @@ may-requires c κs = search needs
 entry-requires : tie.Need-entry-requires
 entry-requires c κs =
     let m = c .before .before in
-    reach-base (m .before .before .before .before .pre .1) _ _ _ (m .may .ensures) (c .before .if1 .taken)
+    reach-base (m .before .before .before .before .pre .1 .0) _ _ _ (m .may .ensures) (c .before .if1 .taken)
 
 entry-requires-2 : tie.Need-entry-requires-2
 entry-requires-2 c κs =
     let m = c .before .before .before in
-    reach-size (m .before .before .before .before .pre .1) _ _ _ (m .may .ensures) (c .before .before .if1 .taken)
+    reach-size (m .before .before .before .before .pre .1 .0) _ _ _ (m .may .ensures) (c .before .before .if1 .taken)
 
 load-from-requires : tie.Need-load-from-requires
 load-from-requires c κs =
     let i = c .before .before .before in
     let p = i .before .before .before .before .before .pre in
-    (p .0, rw (c .before .entry .ensures, c .entry2 .ensures) (reach-inside (p .1) _ _ _ (i .before .may .ensures) (i .if1 .taken)))
+    let inside = reach-inside (p .1 .0) _ _ _ (i .before .may .ensures) (i .if1 .taken) in
+    ((p .0, rw (c .before .entry .ensures, c .entry2 .ensures) inside), p .1 .1)
 
 fault-requires : tie.Need-fault-requires
 fault-requires c κs = search needs
@@ -33,15 +36,17 @@ same-length c = search needs
 
 returns : tie.Need-returns
 unfolding loads looks loadedFrom
-returns c writes =
+returns c =
     let e = c .before .before .before in
-    let i = e .before .before .before in
-    rw (
-      c .before .before .load-from .ensures,
-      e .entry2 .ensures,
-      e .before .entry .ensures,
-      ← i .before .may .ensures,
-      i .if1 .taken,
+    let i = e .before .before .before in (
+      λ writes. rw (
+        c .before .before .load-from .ensures .0,
+        e .entry2 .ensures,
+        e .before .entry .ensures,
+        ← i .before .may .ensures,
+        i .if1 .taken,
+      ),
+      c .before .before .load-from .ensures .1,
     )
 
 same-length-2 : tie.Need-same-length-2
@@ -49,9 +54,13 @@ same-length-2 c = search needs
 
 returns-2 : tie.Need-returns-2
 unfolding loads
-returns-2 c writes =
+returns-2 c =
     let i = c .before .before .before .before in
-    rw (c .before .before .fault .ensures, ← i .before .may .ensures, i .if1 .left)
+    let p = i .before .before .before .before .before .pre in
+    let e = c .before .before .fault .ensures in (
+      λ writes. rw (e, ← i .before .may .ensures, i .if1 .left),
+      rw e (p .1 .1 .0 ∙ sym (counter-fault _ _ (p .0) _)),
+    )
 
 pub load-spec : {M : Type 1} → statement M
 load-spec =

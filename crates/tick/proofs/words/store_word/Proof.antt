@@ -1,6 +1,8 @@
 -- The right decides first, and the store by numbers is the effect applied.
+use mathlib.Core.Path.{sym, _∙_}
 use denote.Ref.{now}
 use Rattle.machine.specs.Tick.{storesBytes}
+use Rattle.parts.proofs.Laws.Counters.{counter-fault}
 use Rattle.tick.specs.Seat.{seatOf}
 use Rattle.tick.proofs.Laws.Reach.{reach-base, reach-size, reach-inside, stored-to}
 use borrow.Author.Needs.{needs}
@@ -13,18 +15,19 @@ may-requires c κs = search needs
 entry-requires : tie.Need-entry-requires
 entry-requires c κs =
     let m = c .before .before in
-    reach-base (m .before .before .before .before .pre .1) _ _ _ (m .may .ensures) (c .before .if1 .taken)
+    reach-base (m .before .before .before .before .pre .1 .0) _ _ _ (m .may .ensures) (c .before .if1 .taken)
 
 entry-requires-2 : tie.Need-entry-requires-2
 entry-requires-2 c κs =
     let m = c .before .before .before in
-    reach-size (m .before .before .before .before .pre .1) _ _ _ (m .may .ensures) (c .before .before .if1 .taken)
+    reach-size (m .before .before .before .before .pre .1 .0) _ _ _ (m .may .ensures) (c .before .before .if1 .taken)
 
 store-word-to-requires : tie.Need-store-word-to-requires
 store-word-to-requires c κs =
     let i = c .before .before .before in
     let p = i .before .before .before .before .before .pre in
-    (p .0, rw (c .before .entry .ensures, c .entry2 .ensures) (reach-inside (p .1) _ _ _ (i .before .may .ensures) (i .if1 .taken)))
+    let inside = reach-inside (p .1 .0) _ _ _ (i .before .may .ensures) (i .if1 .taken) in
+    ((p .0, rw (c .before .entry .ensures, c .entry2 .ensures) inside), p .1 .1)
 
 fault-requires : tie.Need-fault-requires
 fault-requires c κs = search needs
@@ -33,25 +36,27 @@ same-length : tie.Need-same-length
 same-length c = search needs
 
 returns : tie.Need-returns
-returns c reads =
+returns c =
     let e = c .before .before .before in
     let i = e .before .before .before in
-    let a = i .before .before .before .before .before .args in
-    rw (
-      c .before .before .store-word-to .ensures,
-      e .entry2 .ensures,
-      e .before .entry .ensures,
-      stored-to
-          (seatOf (now (a .base)) (now (a .size)) reads (a .writes) (a .segments))
-          4
-          (now (a .memory))
-          (a .from)
-          (a .a)
-          (a .b)
-          (a .c)
-          _
-          (i .before .may .ensures)
-          (i .if1 .taken),
+    let a = i .before .before .before .before .before .args in (
+      λ reads. rw (
+        c .before .before .store-word-to .ensures .0,
+        e .entry2 .ensures,
+        e .before .entry .ensures,
+        stored-to
+            (seatOf (now (a .base)) (now (a .size)) reads (a .writes) (a .segments))
+            4
+            (now (a .memory))
+            (a .from)
+            (a .a)
+            (a .b)
+            (a .c)
+            _
+            (i .before .may .ensures)
+            (i .if1 .taken),
+      ),
+      c .before .before .store-word-to .ensures .1,
     )
 
 same-length-2 : tie.Need-same-length-2
@@ -59,9 +64,13 @@ same-length-2 c = search needs
 
 returns-2 : tie.Need-returns-2
 unfolding storesBytes
-returns-2 c reads =
+returns-2 c =
     let i = c .before .before .before .before in
-    rw (c .before .before .fault .ensures, ← i .before .may .ensures, i .if1 .left)
+    let p = i .before .before .before .before .before .pre in
+    let e = c .before .before .fault .ensures in (
+      λ reads. rw (e, ← i .before .may .ensures, i .if1 .left),
+      rw e (p .1 .1 .0 ∙ sym (counter-fault _ _ (p .0) _)),
+    )
 
 pub store-word-spec : {M : Type 1} → statement M
 store-word-spec =

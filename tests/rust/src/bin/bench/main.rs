@@ -125,7 +125,7 @@ fn times(kernels: &[Named], rounds: u32) {
         print!("| {} |", case.name);
         times.iter().for_each(|&time| print!(" {} |", shown(time, 2)));
         times[2..].iter().enumerate().for_each(|(at, time)| print!(" {} |", shown(times[at % 2] / time, 2)));
-        println!(" {:.1} |", case.aim);
+        println!(" {} |", case.aim);
     }
     let columns: Vec<String> = kernels.iter().flat_map(|(name, _)| ["min", "median"].map(|which| format!("{name} {which}"))).collect();
     print_beside(&columns, &|case| times[case].clone());

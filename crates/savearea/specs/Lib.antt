@@ -1,0 +1,2 @@
+-- The registers that an instruction names.
+pub mod Named
