@@ -17,7 +17,10 @@ passes-test-requires c κs = search needs
 returns-2 : tie.Need-returns-2
 unfolding runOutcome afterRun runAnswer
 returns-2 c =
-    rw (eq-eqb _ _ (c .before .before .if1 .left), sym (c .before .passes-test .ensures) ∙ not-true _ (c .if2 .taken)) (refl, refl)
+    rw (eq-eqb _ _ (c .before .before .before .if1 .left), sym (c .before .passes-test .ensures) ∙ not-true _ (c .if2 .taken)) (refl, refl)
+
+slice-aggregate-is-place : tie.Need-slice-aggregate-is-place
+slice-aggregate-is-place c = search needs
 
 is-place-requires : tie.Need-is-place-requires
 is-place-requires c κs = search needs
@@ -25,9 +28,9 @@ is-place-requires c κs = search needs
 returns-3 : tie.Need-returns-3
 unfolding isPlace runOutcome afterRun runAnswer
 returns-3 c =
-    let t = c .before .before .before .before .before in
+    let t = c .before .before .before in
     rw (
-      eq-eqb _ _ (t .before .before .if1 .left),
+      eq-eqb _ _ (t .before .before .before .if1 .left),
       sym (t .before .passes-test .ensures) ∙ not-false _ (t .if2 .left),
       sym (c .before .is-place .ensures) ∙ not-true _ (c .if3 .taken),
     )
@@ -36,9 +39,9 @@ returns-3 c =
 returns-4 : tie.Need-returns-4
 unfolding isPlace runOutcome afterRun runAnswer
 returns-4 c =
-    let t = c .before .before .before .before .before .before in
+    let t = c .before .before .before .before in
     rw (
-      eq-eqb _ _ (t .before .before .if1 .left),
+      eq-eqb _ _ (t .before .before .before .if1 .left),
       sym (t .before .passes-test .ensures) ∙ not-false _ (t .if2 .left),
       sym (c .before .before .is-place .ensures) ∙ not-false _ (c .before .if3 .left),
       lt-ltb _ _ (c .if4 .taken),
@@ -49,10 +52,10 @@ run-ticks-requires : tie.Need-run-ticks-requires
 unfolding isPlace
 run-ticks-requires c κs =
     let i = c .before .before in
-    let t = i .before .before .before .before .before in (
+    let t = i .before .before .before in (
       sym (t .before .passes-test .ensures) ∙ not-false _ (t .if2 .left),
       record {
-        whole = t .before .before .if1 .left;
+        whole = t .before .before .before .if1 .left;
         placed = sym (i .before .is-place .ensures) ∙ not-false _ (i .if3 .left);
       },
     )
@@ -66,9 +69,9 @@ returns-5 c =
     let call = c .before .before in
     let l = call .before .before in
     let i = l .before in
-    let t = i .before .before .before .before .before in
+    let t = i .before .before .before in
     rw (
-      eq-eqb _ _ (t .before .before .if1 .left),
+      eq-eqb _ _ (t .before .before .before .if1 .left),
       sym (t .before .passes-test .ensures) ∙ not-false _ (t .if2 .left),
       sym (i .before .is-place .ensures) ∙ not-false _ (i .if3 .left),
       le-ltb _ _ (l .if4 .left),
@@ -83,6 +86,7 @@ run-spec =
     returns
     passes-test-requires
     returns-2
+    slice-aggregate-is-place
     is-place-requires
     returns-3
     returns-4
