@@ -1,5 +1,5 @@
 // Run: ticks by stretches, each of one slot and so of its partition, and the place moves after each stretch.
-use bytes::half_at;
+use bytes::wide;
 use calls::Outcome;
 use calls::Placed;
 use machine::MOST_TICKS_OF_RUN;
@@ -52,9 +52,9 @@ fn stretch<'a>(
         (now (memory .entry))
         ⌝ }
 {
-    let from = half_at(base, save as usize) as usize;
-    let start = half_at(base, code as usize) as usize;
-    let room = half_at(size, code as usize) as usize;
+    let from = wide(base[save as usize]);
+    let start = wide(base[code as usize]);
+    let room = wide(size[code as usize]);
     let end = std::num::wrapping_add_u32(count, n);
     let mut pc = get_counter(memory, from);
     let mut left: u32 = n;
@@ -102,7 +102,7 @@ fn run_ticks(policy: Policy, memory: &mut [u8], place: Place, n: u32) -> Place
         let owner = policy.owner[slot as usize] as usize;
         let save = policy.save[owner];
         // Asked before all else is looked up: an idle partition needs none of it.
-        if is_able(memory, half_at(&policy.base, save as usize) as usize) {
+        if is_able(memory, wide(policy.base[save as usize])) {
             let code = policy.code[owner];
             let reads = policy.reads[owner] as u64;
             let writes = policy.writes[owner] as u64;

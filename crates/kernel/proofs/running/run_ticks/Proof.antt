@@ -5,7 +5,7 @@ use mathlib.Core.Path.{_≡_, sym, _∙_}
 use mathlib.Core.Bool.{false}
 use mathlib.Core.Logic.{⊎-elim}
 use native.Mathlib.Omega.{arith}
-use lib.ListN.{getD}
+use lib.ListN.{getD, length}
 use borrow.Author.Needs.{needs}
 use Rattle.policy.specs.Limits.{single, saveSize}
 use Rattle.policy.specs.Tables.{Tables, viewOf}
@@ -63,24 +63,35 @@ cast-owner-2 c = omega (arith, owner-small (c .before .before))
 element-copy-out-save : tie.Need-element-copy-out-save Inv-loop μ-loop
 element-copy-out-save c = owner-small (c .before .before)
 
-cast-half-at : tie.Need-cast-half-at Inv-loop μ-loop
-cast-half-at c = search needs
+cast-wide : tie.Need-cast-wide Inv-loop μ-loop
+cast-wide c = search needs
 
-half-at-requires : tie.Need-half-at-requires Inv-loop μ-loop
-half-at-requires c κs = search needs
+-- Where the save segment begins is in the record.
+save-small : (h : tie.At-loop Inv-loop μ-loop) → getD (h .before .before .before .before .before .before .args .t1 .save) (ownerOf (tablesOf (h .before .before .before .before .before .before .args .t1)) (hereOf h)) 0 < 32
+save-small h =
+    let g = h .before .before .before .before .before .before .good .0 in
+    let p = tick-fits _ _ (h .before .before .before .before .before .before .pre .0) _ _ _ _ (h .loop .inv .reached) (omega arith) (search (needs, g)) (search (needs, g)) in
+    let long : length (h .before .before .before .before .before .before .args .t1 .base) ≡ 32 = search (needs, g) in
+    omega (arith, p .save-there, p .every .base-there, long)
 
-cast-is-able : tie.Need-cast-is-able Inv-loop μ-loop
-cast-is-able c = search needs
+mul-wide : tie.Need-mul-wide Inv-loop μ-loop
+mul-wide c = omega (arith, save-small (c .before .before .before .before))
+
+element-copy-out-wide : tie.Need-element-copy-out-wide Inv-loop μ-loop
+element-copy-out-wide c = save-small (c .before .before .before .before)
+
+wide-requires : tie.Need-wide-requires Inv-loop μ-loop
+wide-requires c κs = search needs
 
 -- The turn, from where it is known whether the partition is able.
 abbrev turn : tie.After-is-able Inv-loop μ-loop → tie.At-loop Inv-loop μ-loop
-turn g = g .before .before .before .before .before .before .before .before .before
+turn g = g .before .before .before .before .before .before .before
 
 is-able-requires : tie.Need-is-able-requires Inv-loop μ-loop
 is-able-requires c κs =
-    let h = c .before .before .before .before .before .before .before .before in
+    let h = c .before .before .before .before .before .before in
     let g = h .before .before .before .before .before .before .good .0 in
-    rw (c .half-at .ensures)
+    rw (c .wide .ensures)
     (save-inside (tick-fits _ _ (h .before .before .before .before .before .before .pre .0) _ _ _ _ (h .loop .inv .reached) (omega arith) (search (needs, g)) (search (needs, g))))
 
 element-copy-out-code : tie.Need-element-copy-out-code Inv-loop μ-loop
@@ -125,7 +136,7 @@ stretch-requires c κs =
 
 idle : (g : tie.After-is-able Inv-loop μ-loop) → g .is-able .result ≡ false
     → isAble (part (turn g .loop .memory) (getD (turn g .before .before .before .before .before .before .args .t1 .base) (getD (turn g .before .before .before .before .before .before .args .t1 .save) (ownerOf (tablesOf (turn g .before .before .before .before .before .before .args .t1)) (hereOf (turn g))) 0) 0) saveSize) ≡ false
-idle g e = rw (← g .before .half-at .ensures) (sym (g .is-able .ensures) ∙ e)
+idle g e = rw (← g .before .wide .ensures) (sym (g .is-able .ensures) ∙ e)
 
 module _ (f : tie.Joined1 Inv-loop μ-loop) where
   abbrev g : tie.After-is-able Inv-loop μ-loop
@@ -215,9 +226,10 @@ run-ticks-spec =
     element-copy-out-owner
     cast-owner-2
     element-copy-out-save
-    cast-half-at
-    half-at-requires
-    cast-is-able
+    cast-wide
+    mul-wide
+    element-copy-out-wide
+    wide-requires
     is-able-requires
     element-copy-out-code
     mul-reads

@@ -1,5 +1,6 @@
 -- Each turn is one tick more of the partition, at the next count and with the counter that the last one left; where one does nothing, those that are left do nothing either.
 use mathlib.Core.Path.{_≡_, refl, sym, _∙_}
+use native.Mathlib.Nat.{lt-of-lt-of-le}
 use native.Mathlib.Omega.{arith}
 use borrow.Author.Needs.{needs}
 use borrow.Author.Tests.{not-true}
@@ -21,23 +22,38 @@ Inv-loop memory₀ base size reads writes segments code save count n from start 
 abbrev μ-loop : tie.MeasureT-loop
 μ-loop memory₀ base size reads writes segments code save count n from start room end pc₀ left₀ memory pc left = left
 
-half-at-requires : tie.Need-half-at-requires Inv-loop μ-loop
-half-at-requires c κs = search needs
+mul-wide : tie.Need-mul-wide Inv-loop μ-loop
+mul-wide c = search needs
 
-cast-from : tie.Need-cast-from Inv-loop μ-loop
-cast-from c = search needs
+shared-slice-read-wide : tie.Need-shared-slice-read-wide Inv-loop μ-loop
+shared-slice-read-wide c =
+    let p = c .before .before .before .before .pre .0 in
+    lt-of-lt-of-le (p .save-there) (p .every .base-there)
 
-half-at-requires-2 : tie.Need-half-at-requires-2 Inv-loop μ-loop
-half-at-requires-2 c κs = search needs
+wide-requires : tie.Need-wide-requires Inv-loop μ-loop
+wide-requires c κs = search needs
 
-cast-start : tie.Need-cast-start Inv-loop μ-loop
-cast-start c = search needs
+mul-wide-2 : tie.Need-mul-wide-2 Inv-loop μ-loop
+mul-wide-2 c = search needs
 
-half-at-requires-3 : tie.Need-half-at-requires-3 Inv-loop μ-loop
-half-at-requires-3 c κs = search needs
+shared-slice-read-wide-2 : tie.Need-shared-slice-read-wide-2 Inv-loop μ-loop
+shared-slice-read-wide-2 c =
+    let p = c .before .before .before .before .before .before .pre .0 in
+    lt-of-lt-of-le (p .code-there) (p .every .base-there)
 
-cast-room : tie.Need-cast-room Inv-loop μ-loop
-cast-room c = search needs
+wide-requires-2 : tie.Need-wide-requires-2 Inv-loop μ-loop
+wide-requires-2 c κs = search needs
+
+mul-wide-3 : tie.Need-mul-wide-3 Inv-loop μ-loop
+mul-wide-3 c = search needs
+
+shared-slice-read-wide-3 : tie.Need-shared-slice-read-wide-3 Inv-loop μ-loop
+shared-slice-read-wide-3 c =
+    let p = c .before .before .before .before .before .before .before .before .pre .0 in
+    lt-of-lt-of-le (p .code-there) (p .every .size-there)
+
+wide-requires-3 : tie.Need-wide-requires-3 Inv-loop μ-loop
+wide-requires-3 c κs = search needs
 
 wrapping-add-u32-requires : tie.Need-wrapping-add-u32-requires Inv-loop μ-loop
 wrapping-add-u32-requires c κs = search needs
@@ -45,7 +61,7 @@ wrapping-add-u32-requires c κs = search needs
 get-counter-requires : tie.Need-get-counter-requires Inv-loop μ-loop
 get-counter-requires c κs =
     let r = c .before .before in
-    rw (r .before .before .half-at .ensures) (save-inside (r .before .before .before .before .before .before .pre .0))
+    rw (r .before .before .before .before .wide .ensures) (save-inside (r .before .before .before .before .before .before .before .before .before .pre .0))
 
 loop-holds : tie.Need-loop-holds Inv-loop μ-loop
 loop-holds c = (refl, none-yet _ _ _ _ _ _, c .get-counter .ensures)
@@ -57,9 +73,9 @@ tick-requires : tie.Need-tick-requires Inv-loop μ-loop
 tick-requires c κs =
     let b = c .before .before .before in
     let r = b .before .before .before .before in
-    let p = r .before .before .before .before .before .before .pre .0 in (
-      rw (b .loop .inv .0, r .before .before .half-at .ensures) (save-inside p),
-      (rw (b .loop .inv .0, r .before .half-at2 .ensures, r .half-at3 .ensures) (p .every .inside _ (p .code-there)), (rw (b .loop .inv .0) (p .every), b .loop .inv .2)),
+    let p = r .before .before .before .before .before .before .before .before .before .pre .0 in (
+      rw (b .loop .inv .0, r .before .before .before .before .wide .ensures) (save-inside p),
+      (rw (b .loop .inv .0, r .before .before .wide2 .ensures, r .wide3 .ensures) (p .every .inside _ (p .code-there)), (rw (b .loop .inv .0) (p .every), b .loop .inv .2)),
     )
 
 same-length : tie.Need-same-length Inv-loop μ-loop
@@ -70,10 +86,10 @@ returns c =
     let t = c .before .before .before .before .tick in
     let h = c .before .before .before .before .before .before .before .before in
     let r = h .before .before .before .before in
-    let f = r .before .before .half-at .ensures in
+    let f = r .before .before .before .before .wide .ensures in
     idle-rest _ _ _ _ _ _ _ _ _ _ (h .loop .inv .1)
     (rw (← f) (sym (t .ensures .1) ∙ not-true _ (c .if1 .taken)))
-    (by-numbers _ _ _ _ _ _ _ _ _ f (r .before .half-at2 .ensures) (r .half-at3 .ensures) (t .ensures .0))
+    (by-numbers _ _ _ _ _ _ _ _ _ f (r .before .before .wide2 .ensures) (r .wide3 .ensures) (t .ensures .0))
 
 sub-left : tie.Need-sub-left Inv-loop μ-loop
 sub-left c = search needs
@@ -88,12 +104,12 @@ loop-again c =
     let l = d .before in
     let e = l .before .before .before .before in
     let r = e .before in
-    let start = r .before .before .before .before .before .before in
+    let start = r .before .before .before .before .before .before .before .before .before in
     let g = l .before .loop .inv .1 in
     let at = next-count _ _ _ _ _ (g .most) (start .pre .1) (search needs) (e .wrapping-add-u32 .ensures) (d .wrapping-sub-u32 .ensures) in (
       search needs,
       one-more _ _ _ _ _ _ _ _ _ _ (search (needs, start .fits)) (l .loop-test .taken) at g
-          (by-numbers _ _ _ _ _ _ _ _ _ (r .before .before .half-at .ensures) (r .before .half-at2 .ensures) (r .half-at3 .ensures) (t .ensures .0)),
+          (by-numbers _ _ _ _ _ _ _ _ _ (r .before .before .before .before .wide .ensures) (r .before .before .wide2 .ensures) (r .wide3 .ensures) (t .ensures .0)),
       t .ensures .2,
     )
 
@@ -112,12 +128,15 @@ stretch-spec =
     (tie.spec
     Inv-loop
     μ-loop
-    half-at-requires
-    cast-from
-    half-at-requires-2
-    cast-start
-    half-at-requires-3
-    cast-room
+    mul-wide
+    shared-slice-read-wide
+    wide-requires
+    mul-wide-2
+    shared-slice-read-wide-2
+    wide-requires-2
+    mul-wide-3
+    shared-slice-read-wide-3
+    wide-requires-3
     wrapping-add-u32-requires
     get-counter-requires
     loop-holds
