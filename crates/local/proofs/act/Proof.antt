@@ -17,124 +17,76 @@ enum-known-i : tie.Need-enum-known-i
 enum-known-i c = search needs
 
 put-result-requires : tie.Need-put-result-requires
-put-result-requires c κs =
-    let arm = c .before .before in
-    let start = arm .before .before .before in
-    (start .pre .0, start .pre .1, rw (arm .i .given .1) at (start .pre .2))
+put-result-requires c κs = (c .before .before .before .before .before .pre .0, c .before .before .before .before .before .pre .1, rw (c .before .before .i .given .1) at (c .before .before .before .before .before .pre .2))
 
 enum-known-i-2 : tie.Need-enum-known-i-2
 enum-known-i-2 c = search needs
 
 get-word-in-requires : tie.Need-get-word-in-requires
-get-word-in-requires c κs =
-    let arm = c .before .before in
-    let start = arm .before .before .before in
-    omega (arith, rw (arm .i2 .given .1) at (start .pre .2), start .pre .1)
+get-word-in-requires c κs = omega (arith, rw (c .before .before .i2 .given .1) at (c .before .before .before .before .before .pre .2), c .before .before .before .before .before .pre .1)
 
 get-word-in-requires-2 : tie.Need-get-word-in-requires-2
-get-word-in-requires-2 c κs =
-    let arm = c .before .before .before .before in
-    let start = arm .before .before .before in
-    omega (arith, rw (arm .i2 .given .1) at (start .pre .2), start .pre .1)
+get-word-in-requires-2 c κs = omega (arith, rw (c .before .before .before .before .i2 .given .1) at (c .before .before .before .before .before .before .before .pre .2), c .before .before .before .before .before .before .before .pre .1)
 
 wrapping-add-u32-requires : tie.Need-wrapping-add-u32-requires
 wrapping-add-u32-requires c κs = search needs
 
 put-result-requires-2 : tie.Need-put-result-requires-2
-put-result-requires-2 c κs =
-    let arm = c .before .before .before .before .before .before .before in
-    let start = arm .before .before .before in
-    (start .pre .0, start .pre .1, (rw (arm .i2 .given .1) at (start .pre .2)) .0)
+put-result-requires-2 c κs = (c .before .before .before .before .before .before .before .before .before .before .pre .0, c .before .before .before .before .before .before .before .before .before .before .pre .1, (rw (c .before .before .before .before .before .before .before .i2 .given .1) at (c .before .before .before .before .before .before .before .before .before .before .pre .2)) .0)
 
 enum-known-i-3 : tie.Need-enum-known-i-3
 enum-known-i-3 c = search needs
 
 get-word-in-requires-3 : tie.Need-get-word-in-requires-3
-get-word-in-requires-3 c κs =
-    let arm = c .before .before in
-    let start = arm .before .before .before in
-    omega (arith, rw (arm .i3 .given .1) at (start .pre .2), start .pre .1)
+get-word-in-requires-3 c κs = omega (arith, rw (c .before .before .i3 .given .1) at (c .before .before .before .before .before .pre .2), c .before .before .before .before .before .pre .1)
 
 get-word-in-requires-4 : tie.Need-get-word-in-requires-4
-get-word-in-requires-4 c κs =
-    let arm = c .before .before .before .before in
-    let start = arm .before .before .before in
-    omega (arith, rw (arm .i3 .given .1) at (start .pre .2), start .pre .1)
+get-word-in-requires-4 c κs = omega (arith, rw (c .before .before .before .before .i3 .given .1) at (c .before .before .before .before .before .before .before .pre .2), c .before .before .before .before .before .before .before .pre .1)
 
 minus-requires : tie.Need-minus-requires
 minus-requires c κs = search needs
 
 put-result-requires-3 : tie.Need-put-result-requires-3
-put-result-requires-3 c κs =
-    let arm = c .before .before .before .before .before .before .before in
-    let start = arm .before .before .before in
-    (start .pre .0, start .pre .1, (rw (arm .i3 .given .1) at (start .pre .2)) .0)
+put-result-requires-3 c κs = (c .before .before .before .before .before .before .before .before .before .before .pre .0, c .before .before .before .before .before .before .before .before .before .before .pre .1, (rw (c .before .before .before .before .before .before .before .i3 .given .1) at (c .before .before .before .before .before .before .before .before .before .before .pre .2)) .0)
 
 enum-known-i-4 : tie.Need-enum-known-i-4
 enum-known-i-4 c = search needs
 
 get-word-in-requires-5 : tie.Need-get-word-in-requires-5
-get-word-in-requires-5 c κs =
-    let arm = c .before .before in
-    let start = arm .before .before .before in
-    omega (arith, rw (arm .i4 .given .1) at (start .pre .2), start .pre .1)
+get-word-in-requires-5 c κs = omega (arith, rw (c .before .before .i4 .given .1) at (c .before .before .before .before .before .pre .2), c .before .before .before .before .before .pre .1)
 
 get-word-in-requires-6 : tie.Need-get-word-in-requires-6
-get-word-in-requires-6 c κs =
-    let arm = c .before .before .before .before in
-    let start = arm .before .before .before in
-    omega (arith, rw (arm .i4 .given .1) at (start .pre .2), start .pre .1)
+get-word-in-requires-6 c κs = omega (arith, rw (c .before .before .before .before .i4 .given .1) at (c .before .before .before .before .before .before .before .pre .2), c .before .before .before .before .before .before .before .pre .1)
 
 put-result-requires-4 : tie.Need-put-result-requires-4
-put-result-requires-4 c κs =
-    let arm = c .before .before .before .before .before .before in
-    let start = arm .before .before .before in
-    (start .pre .0, start .pre .1, (rw (arm .i4 .given .1) at (start .pre .2)) .0)
+put-result-requires-4 c κs = (c .before .before .before .before .before .before .before .before .before .pre .0, c .before .before .before .before .before .before .before .before .before .pre .1, (rw (c .before .before .before .before .before .before .i4 .given .1) at (c .before .before .before .before .before .before .before .before .before .pre .2)) .0)
 
 enum-known-i-5 : tie.Need-enum-known-i-5
 enum-known-i-5 c = search needs
 
 get-word-in-requires-7 : tie.Need-get-word-in-requires-7
-get-word-in-requires-7 c κs =
-    let arm = c .before .before in
-    let start = arm .before .before .before in
-    omega (arith, rw (arm .i5 .given .1) at (start .pre .2), start .pre .1)
+get-word-in-requires-7 c κs = omega (arith, rw (c .before .before .i5 .given .1) at (c .before .before .before .before .before .pre .2), c .before .before .before .before .before .pre .1)
 
 get-word-in-requires-8 : tie.Need-get-word-in-requires-8
-get-word-in-requires-8 c κs =
-    let arm = c .before .before .before .before in
-    let start = arm .before .before .before in
-    omega (arith, rw (arm .i5 .given .1) at (start .pre .2), start .pre .1)
+get-word-in-requires-8 c κs = omega (arith, rw (c .before .before .before .before .i5 .given .1) at (c .before .before .before .before .before .before .before .pre .2), c .before .before .before .before .before .before .before .pre .1)
 
 put-result-requires-5 : tie.Need-put-result-requires-5
-put-result-requires-5 c κs =
-    let arm = c .before .before .before .before .before .before in
-    let start = arm .before .before .before in
-    (start .pre .0, start .pre .1, (rw (arm .i5 .given .1) at (start .pre .2)) .0)
+put-result-requires-5 c κs = (c .before .before .before .before .before .before .before .before .before .pre .0, c .before .before .before .before .before .before .before .before .before .pre .1, (rw (c .before .before .before .before .before .before .i5 .given .1) at (c .before .before .before .before .before .before .before .before .before .pre .2)) .0)
 
 enum-known-i-6 : tie.Need-enum-known-i-6
 enum-known-i-6 c = search needs
 
 get-word-in-requires-9 : tie.Need-get-word-in-requires-9
-get-word-in-requires-9 c κs =
-    let arm = c .before .before in
-    let start = arm .before .before .before in
-    omega (arith, rw (arm .i6 .given .1) at (start .pre .2), start .pre .1)
+get-word-in-requires-9 c κs = omega (arith, rw (c .before .before .i6 .given .1) at (c .before .before .before .before .before .pre .2), c .before .before .before .before .before .pre .1)
 
 get-word-in-requires-10 : tie.Need-get-word-in-requires-10
-get-word-in-requires-10 c κs =
-    let arm = c .before .before .before .before in
-    let start = arm .before .before .before in
-    omega (arith, rw (arm .i6 .given .1) at (start .pre .2), start .pre .1)
+get-word-in-requires-10 c κs = omega (arith, rw (c .before .before .before .before .i6 .given .1) at (c .before .before .before .before .before .before .before .pre .2), c .before .before .before .before .before .before .before .pre .1)
 
 shr-x : tie.Need-shr-x
 shr-x c = search needs
 
 put-result-requires-6 : tie.Need-put-result-requires-6
-put-result-requires-6 c κs =
-    let arm = c .before .before .before .before .before .before in
-    let start = arm .before .before .before in
-    (start .pre .0, start .pre .1, (rw (arm .i6 .given .1) at (start .pre .2)) .0)
+put-result-requires-6 c κs = (c .before .before .before .before .before .before .before .before .before .pre .0, c .before .before .before .before .before .before .before .before .before .pre .1, (rw (c .before .before .before .before .before .before .i6 .given .1) at (c .before .before .before .before .before .before .before .before .before .pre .2)) .0)
 
 enum-told-2 : tie.Need-enum-told-2
 enum-told-2 c = search needs
@@ -146,10 +98,7 @@ enum-known-i-7 : tie.Need-enum-known-i-7
 enum-known-i-7 c = search needs
 
 jump-requires : tie.Need-jump-requires
-jump-requires c κs =
-    let arm = c .before .before in
-    let start = arm .before .before .before in
-    (start .pre .0, start .pre .1, rw (arm .i7 .given .1) at (start .pre .2))
+jump-requires c κs = (c .before .before .before .before .before .pre .0, c .before .before .before .before .before .pre .1, rw (c .before .before .i7 .given .1) at (c .before .before .before .before .before .pre .2))
 
 enum-told-4 : tie.Need-enum-told-4
 enum-told-4 c = search needs
@@ -192,10 +141,7 @@ enum-known-i-9 : tie.Need-enum-known-i-9
 enum-known-i-9 c = search needs
 
 put-result-requires-7 : tie.Need-put-result-requires-7
-put-result-requires-7 c κs =
-    let arm = c .before .before in
-    let start = arm .before .before .before in
-    (start .pre .0, start .pre .1, rw (arm .i9 .given .1) at (start .pre .2))
+put-result-requires-7 c κs = (c .before .before .before .before .before .pre .0, c .before .before .before .before .before .pre .1, rw (c .before .before .i9 .given .1) at (c .before .before .before .before .before .pre .2))
 
 same-length : tie.Need-same-length
 same-length c = search needs
@@ -266,12 +212,7 @@ returns-5 c =
     let result = c .before .before in
     let right = result .before .before in
     let left = right .before .before in (
-      rw (
-        left .before .before .before .i4 .given .1,
-        result .put-result4 .ensures .0,
-        right .get-word-in6 .ensures,
-        left .get-word-in5 .ensures,
-      ),
+      rw (left .before .before .before .i4 .given .1, result .put-result4 .ensures .0, right .get-word-in6 .ensures, left .get-word-in5 .ensures),
       result .put-result4 .ensures .1,
     )
 
@@ -284,12 +225,7 @@ returns-6 c =
     let result = c .before .before in
     let right = result .before .before in
     let left = right .before .before in (
-      rw (
-        left .before .before .before .i5 .given .1,
-        result .put-result5 .ensures .0,
-        right .get-word-in8 .ensures,
-        left .get-word-in7 .ensures,
-      ),
+      rw (left .before .before .before .i5 .given .1, result .put-result5 .ensures .0, right .get-word-in8 .ensures, left .get-word-in7 .ensures),
       result .put-result5 .ensures .1,
     )
 
@@ -302,12 +238,7 @@ returns-7 c =
     let result = c .before .before in
     let right = result .before .before in
     let left = right .before .before in (
-      rw (
-        left .before .before .before .i6 .given .1,
-        result .put-result6 .ensures .0,
-        right .get-word-in10 .ensures,
-        left .get-word-in9 .ensures,
-      ),
+      rw (left .before .before .before .i6 .given .1, result .put-result6 .ensures .0, right .get-word-in10 .ensures, left .get-word-in9 .ensures),
       result .put-result6 .ensures .1,
     )
 
@@ -346,12 +277,7 @@ returns-12 c =
     let counter = c .before .before in
     let place = counter .before .before .before .before in
     let lines = place .before .before .before .before in (
-      rw (
-        lines .before .before .before .i8 .given .1,
-        counter .advance .ensures .0,
-        place .put-half .ensures,
-        lines .put2 .ensures,
-      ),
+      rw (lines .before .before .before .i8 .given .1, counter .advance .ensures .0, place .put-half .ensures, lines .put2 .ensures),
       counter .advance .ensures .1,
     )
 
