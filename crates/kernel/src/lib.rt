@@ -5,6 +5,7 @@ mod clear;
 mod line;
 mod running;
 mod save;
+mod stretch;
 
 pub use answer::outcome_number;
 pub use clear::start;

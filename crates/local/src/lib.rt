@@ -7,6 +7,7 @@ use bytes::put_half;
 use machine::Fault;
 use machine::Instr;
 use savearea::advance;
+use savearea::asking;
 use savearea::fault;
 use savearea::in_handler;
 use savearea::layout::COUNTER;
@@ -25,6 +26,7 @@ ghost use Rattle.policy.specs.Limits.{saveSize};
 ghost use Rattle.machine.specs.Save.{counter};
 ghost use Rattle.machine.specs.Local.{jumps, waits, comesBack, actsOn};
 ghost use Rattle.savearea.specs.Named.{Named};
+ghost use Rattle.savearea.specs.Next.{Hands};
 
 // The library says of a difference what it sums to; this says what it is.
 fn minus(x: u32, y: u32) -> u32
@@ -75,48 +77,49 @@ fn back(s: &mut [u8], pc: u16) -> u16
 }
 
 // One instruction at a count of ticks; a load or a store, which are lent more than these bytes, changes nothing here.
-pub fn act(s: &mut [u8], count: u32, pc: u16, i: Instr) -> u16
+// It hands on the counter, and 65,536 more where lines, handler or state may have changed, so that the next tick asks.
+pub fn act(s: &mut [u8], count: u32, pc: u16, i: Instr) -> u32
     requires { ⌜ (pc ≡ counter (now s)) × (saveSize ≤ length (now s)) × Named i ⌝ }
-    ensures { λ r. ⌜ (now (s .exit) ≡ actsOn (now (s .entry)) count i) × (r ≡ counter (now (s .exit))) ⌝ }
+    ensures { λ r. ⌜ (now (s .exit) ≡ actsOn (now (s .entry)) count i) × Hands r (now (s .entry)) (now (s .exit)) ⌝ }
 {
     match i {
         Instr::Halt => {
             put(s, STATE, HALTED);
-            pc
+            asking(pc)
         }
-        Instr::Set(a, n) => put_result(s, a, n, pc),
+        Instr::Set(a, n) => put_result(s, a, n, pc) as u32,
         Instr::Add(a, b, c) => {
             let x = std::num::wrapping_add_u32(get_word_in(s, b), get_word_in(s, c));
-            put_result(s, a, x, pc)
+            put_result(s, a, x, pc) as u32
         }
         Instr::Sub(a, b, c) => {
             let x = minus(get_word_in(s, b), get_word_in(s, c));
-            put_result(s, a, x, pc)
+            put_result(s, a, x, pc) as u32
         }
         Instr::And(a, b, c) => {
             let x = get_word_in(s, b) & get_word_in(s, c);
-            put_result(s, a, x, pc)
+            put_result(s, a, x, pc) as u32
         }
         Instr::Xor(a, b, c) => {
             let x = get_word_in(s, b) ^ get_word_in(s, c);
-            put_result(s, a, x, pc)
+            put_result(s, a, x, pc) as u32
         }
         Instr::Shift(a, b, c) => {
             let x = get_word_in(s, b) >> (get_word_in(s, c) % 32);
-            put_result(s, a, x, pc)
+            put_result(s, a, x, pc) as u32
         }
-        Instr::Load(_, _, _) => pc,
-        Instr::Store(_, _, _) => pc,
-        Instr::Jump(a, n) => jump(s, a, n, pc),
-        Instr::Wait => wait(s, pc),
+        Instr::Load(_, _, _) => asking(pc),
+        Instr::Store(_, _, _) => asking(pc),
+        Instr::Jump(a, n) => jump(s, a, n, pc) as u32,
+        Instr::Wait => asking(wait(s, pc)),
         Instr::Listen(a, n) => {
             put(s, ENABLED, a);
             put_half(s, HANDLER, n);
-            advance(s, pc)
+            asking(advance(s, pc))
         }
-        Instr::Back => back(s, pc),
-        Instr::LoadWord(_, _, _) => pc,
-        Instr::StoreWord(_, _, _) => pc,
-        Instr::Count(a) => put_result(s, a, count, pc),
+        Instr::Back => asking(back(s, pc)),
+        Instr::LoadWord(_, _, _) => asking(pc),
+        Instr::StoreWord(_, _, _) => asking(pc),
+        Instr::Count(a) => put_result(s, a, count, pc) as u32,
     }
 }

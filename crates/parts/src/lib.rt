@@ -10,6 +10,7 @@ use bytes::word_at;
 use machine::Decoded;
 use machine::Fault;
 use policy::SAVE_SIZE;
+use savearea::asking;
 use savearea::layout::COUNTER;
 use savearea::layout::READY;
 use savearea::layout::STATE;
@@ -23,6 +24,7 @@ ghost use Rattle.machine.specs.Save.{register, counter, due};
 ghost use Rattle.machine.specs.Faults.{faults};
 ghost use Rattle.machine.specs.Decode.{lastOpcode, fetched};
 ghost use Rattle.machine.specs.Local.{takesInterrupt, interrupted, isReady, isAble};
+ghost use Rattle.savearea.specs.Next.{Hands};
 ghost use Rattle.parts.specs.Parts.{savedAt, withSaved, loadedFrom, storedTo};
 
 pub fn fault(memory: &mut [u8], from: usize, f: Fault)
@@ -119,7 +121,7 @@ fn store_word_at(memory: &mut [u8], start: usize, size: usize, at: u32, n: u32)
 }
 
 // Register a takes the byte at the offset that register b has. Like each of the four it is handed the counter, and hands
-// back the counter after it: a fault leaves it.
+// back the counter after it: a fault leaves it. A load leaves lines and state too, and asks after a fault alone.
 pub fn load_from(
     memory: &mut [u8],
     from: usize,
@@ -128,7 +130,7 @@ pub fn load_from(
     a: u32,
     b: u32,
     pc: u16,
-) -> u16
+) -> u32
     requires { ⌜ (from + saveSize ≤ length (now memory)) × (start + size ≤ length (now memory)) ⌝ }
     requires { ⌜ (pc ≡ counter (savedAt (now memory) from)) × (a < 8) × (b < 8) ⌝ }
     ensures { λ r.
@@ -136,18 +138,18 @@ pub fn load_from(
         (now (memory .exit)
         ≡ withSaved (now (memory .entry)) from
         (loadedFrom 1 (savedAt (now (memory .entry)) from) (part (now (memory .entry)) start size) size a b))
-        × (r ≡ counter (savedAt (now (memory .exit)) from))
+        × Hands r (savedAt (now (memory .entry)) from) (savedAt (now (memory .exit)) from)
         ⌝ }
 {
     let at = get_register(memory, from, b) as usize;
     if size <= at {
         fault(memory, from, Fault::OffsetOver);
-        return pc;
+        return asking(pc);
     }
     let end = start + size;
     let x = byte_at(&memory[start..end], at) as u32;
     let to = from + SAVE_SIZE;
-    savearea::put_result(&mut memory[from..to], a, x, pc)
+    savearea::put_result(&mut memory[from..to], a, x, pc) as u32
 }
 
 // That byte takes register a. The save bytes are put first, as the definition has it; nothing is read between. The counter
@@ -192,7 +194,7 @@ pub fn load_word_from(
     a: u32,
     b: u32,
     pc: u16,
-) -> u16
+) -> u32
     requires { ⌜ (from + saveSize ≤ length (now memory)) × (start + size ≤ length (now memory)) ⌝ }
     requires { ⌜ (pc ≡ counter (savedAt (now memory) from)) × (a < 8) × (b < 8) ⌝ }
     ensures { λ r.
@@ -200,18 +202,18 @@ pub fn load_word_from(
         (now (memory .exit)
         ≡ withSaved (now (memory .entry)) from
         (loadedFrom 4 (savedAt (now (memory .entry)) from) (part (now (memory .entry)) start size) size a b))
-        × (r ≡ counter (savedAt (now (memory .exit)) from))
+        × Hands r (savedAt (now (memory .entry)) from) (savedAt (now (memory .exit)) from)
         ⌝ }
 {
     let at = get_register(memory, from, b);
     if size < (at as usize) + 4 {
         fault(memory, from, Fault::OffsetOver);
-        return pc;
+        return asking(pc);
     }
     let end = start + size;
     let x = word_at(&memory[start..end], at);
     let to = from + SAVE_SIZE;
-    savearea::put_result(&mut memory[from..to], a, x, pc)
+    savearea::put_result(&mut memory[from..to], a, x, pc) as u32
 }
 
 // Those four bytes take register a; the save bytes are put first here too.

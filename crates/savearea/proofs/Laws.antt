@@ -1,3 +1,4 @@
 pub mod Counters
 pub mod Lines
 pub mod Named
+pub mod Next

@@ -1,2 +1,3 @@
--- The registers that an instruction names.
+-- The registers that an instruction names; what it hands to the next tick.
 pub mod Named
+pub mod Next

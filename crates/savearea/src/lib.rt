@@ -7,7 +7,9 @@ mod step;
 
 pub use line::interrupt;
 pub use line::takes_interrupt;
+pub use step::ASKING;
 pub use step::advance;
+pub use step::asking;
 pub use step::fault;
 pub use step::in_handler;
 pub use step::put_result;

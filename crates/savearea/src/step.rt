@@ -10,7 +10,7 @@ use bytes::put_half;
 use bytes::put_word_in;
 use machine::Fault;
 ghost use mathlib.Core.Path.{_≡_};
-ghost use Prim.Native.Nat.{_≤_, _<_};
+ghost use Prim.Native.Nat.{_+_, _≤_, _<_};
 ghost use lib.ListN.{length};
 ghost use Rattle.policy.specs.Limits.{saveSize};
 ghost use Rattle.machine.specs.Save.{counter, inHandler};
@@ -39,6 +39,16 @@ pub fn put_result(s: &mut [u8], a: u32, x: u32, pc: u16) -> u16
 {
     put_word_in(s, a, x);
     advance(s, pc)
+}
+
+// Counters are below it.
+pub const ASKING: u32 = 65536;
+
+// What an instruction hands to the next tick where that must ask for lines and state: the counter, and 65,536 more.
+pub fn asking(pc: u16) -> u32
+    ensures { λ r. ⌜ r ≡ pc + 65536 ⌝ }
+{
+    pc as u32 + ASKING
 }
 
 fn fault_number(f: Fault) -> u8

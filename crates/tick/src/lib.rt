@@ -1,6 +1,6 @@
-// One tick of a partition over memory and the arrays of a policy record, all lent. A fetch or a load is lent one
-// segment, a store that segment alone. The counter goes from tick to tick as a number: each is handed what the save bytes
-// hold, stores the next one there and hands it back.
+// One tick of a partition over memory and the arrays of a policy record, all lent: one that steps. A fetch or a load is
+// lent one segment, a store that segment alone. The counter goes from tick to tick as a number: each is handed what the
+// save bytes hold, stores the next one there and hands it back.
 mod loading;
 mod reach;
 mod storing;
@@ -16,23 +16,22 @@ use machine::Fault;
 use machine::Instr;
 use parts::fault;
 use parts::fetch;
-use parts::get_counter;
-use parts::interrupt;
-use parts::is_ready;
-use parts::takes_interrupt;
 use policy::SAVE_SIZE;
+use savearea::asking;
 ghost use mathlib.Core.Path.{_≡_};
+ghost use mathlib.Core.Bool.{true};
 ghost use Prim.Native.Nat.{_+_, _≤_};
 ghost use lib.ListN.{length};
 ghost use Rattle.policy.specs.Limits.{saveSize};
 ghost use Rattle.machine.specs.Save.{counter};
-ghost use Rattle.machine.specs.Local.{isAble};
 ghost use Rattle.savearea.specs.Named.{NamedIn};
+ghost use Rattle.savearea.specs.Next.{isPlain, Hands};
 ghost use Rattle.parts.specs.Parts.{savedAt};
 ghost use Rattle.tick.specs.Seat.{seatOf, Inside};
-ghost use Rattle.tick.specs.Done.{obeyed, stepped, ticked};
+ghost use Rattle.tick.specs.Done.{obeyed, ticked};
 
-// A load and a store are lent a segment; every other instruction the save bytes alone.
+// A load and a store are lent a segment; every other instruction the save bytes alone. Where a store goes is not known
+// here, and so not whether it leaves lines and state.
 fn obey<'a>(
     memory: &mut [u8],
     base: &'a [u16],
@@ -44,7 +43,7 @@ fn obey<'a>(
     count: u32,
     pc: u16,
     d: Decoded,
-) -> u16
+) -> u32
     requires { ⌜ from + saveSize ≤ length (now memory) ⌝ }
     requires { ⌜ Inside (now base) (now size) segments (length (now memory)) ⌝ }
     requires { ⌜ (pc ≡ counter (savedAt (now memory) from)) × NamedIn d ⌝ }
@@ -53,21 +52,23 @@ fn obey<'a>(
         (now (memory .exit)
         ≡ obeyed (seatOf (now (base .entry)) (now (size .entry)) reads writes segments)
         from (now (memory .entry)) count d)
-        × (r ≡ counter (savedAt (now (memory .exit)) from))
+        × Hands r (savedAt (now (memory .entry)) from) (savedAt (now (memory .exit)) from)
         ⌝ }
 {
     let Decoded::Runs(i) = d else {
         fault(memory, from, Fault::BadInstruction);
-        return pc;
+        return asking(pc);
     };
     match i {
         Instr::Load(a, b, c) => load(memory, base, size, reads, segments, from, a, b, c, pc),
-        Instr::Store(a, b, c) => store(memory, base, size, writes, segments, from, a, b, c, pc),
+        Instr::Store(a, b, c) => {
+            asking(store(memory, base, size, writes, segments, from, a, b, c, pc))
+        }
         Instr::LoadWord(a, b, c) => {
             load_word(memory, base, size, reads, segments, from, a, b, c, pc)
         }
         Instr::StoreWord(a, b, c) => {
-            store_word(memory, base, size, writes, segments, from, a, b, c, pc)
+            asking(store_word(memory, base, size, writes, segments, from, a, b, c, pc))
         }
         _ => {
             let to = from + SAVE_SIZE;
@@ -76,60 +77,10 @@ fn obey<'a>(
     }
 }
 
-fn step<'a>(
-    memory: &mut [u8],
-    base: &'a [u16],
-    size: &'a [u16],
-    reads: u64,
-    writes: u64,
-    segments: u8,
-    from: usize,
-    start: usize,
-    room: usize,
-    count: u32,
-    pc: u16,
-) -> u16
-    requires { ⌜ from + saveSize ≤ length (now memory) ⌝ }
-    requires { ⌜ start + room ≤ length (now memory) ⌝ }
-    requires { ⌜ Inside (now base) (now size) segments (length (now memory)) ⌝ }
-    requires { ⌜ pc ≡ counter (savedAt (now memory) from) ⌝ }
-    ensures { λ r.
-        ⌜
-        (now (memory .exit)
-        ≡ stepped (seatOf (now (base .entry)) (now (size .entry)) reads writes segments)
-        from start room count (now (memory .entry)))
-        × (r ≡ counter (savedAt (now (memory .exit)) from))
-        ⌝ }
-{
-    if room < (pc as usize) + 4 {
-        fault(memory, from, Fault::CounterOver);
-        pc
-    } else {
-        let d = fetch(memory, start, room, pc);
-        obey(
-            memory,
-            base,
-            size,
-            reads,
-            writes,
-            segments,
-            from,
-            count,
-            pc,
-            d,
-        )
-    }
-}
-
-// Whether a tick had something to do, and the counter after it.
-pub struct Went {
-    pub able: bool,
-    pub pc: u16,
-}
-
 // A tick, at this count and with this counter, of the partition with these save bytes and this code, and the masks of the
-// segments on which a line gives it r and w. An interrupt sets another counter, which is read back.
-pub fn tick<'a>(
+// segments on which a line gives it r and w: one that takes no interrupt, of a partition that is ready, with an instruction
+// at its counter.
+pub fn step<'a>(
     memory: &mut [u8],
     base: &'a [u16],
     size: &'a [u16],
@@ -141,45 +92,31 @@ pub fn tick<'a>(
     room: usize,
     count: u32,
     pc: u16,
-) -> Went
+) -> u32
     requires { ⌜ from + saveSize ≤ length (now memory) ⌝ }
     requires { ⌜ start + room ≤ length (now memory) ⌝ }
     requires { ⌜ Inside (now base) (now size) segments (length (now memory)) ⌝ }
-    requires { ⌜ pc ≡ counter (savedAt (now memory) from) ⌝ }
+    requires { ⌜ (pc ≡ counter (savedAt (now memory) from)) × (pc + 4 ≤ room) ⌝ }
+    requires { ⌜ isPlain (savedAt (now memory) from) ≡ true ⌝ }
     ensures { λ r.
         ⌜
         (now (memory .exit)
         ≡ ticked (seatOf (now (base .entry)) (now (size .entry)) reads writes segments)
         from start room count (now (memory .entry)))
-        × (r .able ≡ isAble (savedAt (now (memory .entry)) from))
-        × (r .pc ≡ counter (savedAt (now (memory .exit)) from))
+        × Hands r (savedAt (now (memory .entry)) from) (savedAt (now (memory .exit)) from)
         ⌝ }
 {
-    if takes_interrupt(memory, from) {
-        interrupt(memory, from, pc);
-        return Went {
-            able: true,
-            pc: get_counter(memory, from),
-        };
-    }
-    if is_ready(memory, from) {
-        let next = step(
-            memory,
-            base,
-            size,
-            reads,
-            writes,
-            segments,
-            from,
-            start,
-            room,
-            count,
-            pc,
-        );
-        return Went {
-            able: true,
-            pc: next,
-        };
-    }
-    Went { able: false, pc }
+    let d = fetch(memory, start, room, pc);
+    obey(
+        memory,
+        base,
+        size,
+        reads,
+        writes,
+        segments,
+        from,
+        count,
+        pc,
+        d,
+    )
 }

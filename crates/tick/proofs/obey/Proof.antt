@@ -3,7 +3,8 @@
 use mathlib.Core.Path.{sym, _∙_}
 use native.Mathlib.Nat.{add-sub-cancel-left}
 use Rattle.machine.specs.Tick.{executes, obeys}
-use Rattle.parts.proofs.Laws.Counters.{counter-back, counter-fault}
+use Rattle.savearea.proofs.Laws.Next.{hands-asking}
+use Rattle.parts.proofs.Laws.Counters.{hands-back, hands-fault}
 use Rattle.tick.proofs.Laws.Alone.{acts-alone}
 use borrow.Author.Needs.{needs}
 use Rattle.tick.proofs.obey.Statement.{statement}
@@ -18,16 +19,20 @@ enum-told c = search needs
 fault-requires : tie.Need-fault-requires
 fault-requires c κs = search needs
 
+asking-requires : tie.Need-asking-requires
+asking-requires c κs = search needs
+
 same-length : tie.Need-same-length
 same-length c = search needs
 
 returns : tie.Need-returns
 unfolding obeys
 returns c =
-    let arm = c .before .before .before .before in
+    let f = c .before .before .before in
+    let arm = f .before .before in
     let p = arm .before .before .before .before .before .pre in
-    let e = c .before .before .fault .ensures in
-    (rw (arm .enum-told .given .1) e, rw e (p .1 .1 .0 ∙ sym (counter-fault _ _ (p .0) _)))
+    let e = f .fault .ensures in
+    (rw (arm .enum-told .given .1) e, rw e (hands-fault _ _ (p .0) _ _ _ (search needs) (p .1 .1 .0) (c .asking .ensures)))
 
 enum-known-i : tie.Need-enum-known-i
 enum-known-i c = search needs
@@ -51,6 +56,9 @@ store-requires c κs =
     let named = rw (kind .d .given .1, arm .i2 .given .1) at (p .1 .1 .1) in
     (p .0, (p .1 .0, (p .1 .1 .0, named .0, named .1)))
 
+asking-requires-2 : tie.Need-asking-requires-2
+asking-requires-2 c κs = search needs
+
 enum-known-i-3 : tie.Need-enum-known-i-3
 enum-known-i-3 c = search needs
 
@@ -72,6 +80,9 @@ store-word-requires c κs =
     let p = kind .before .before .before .before .before .pre in
     let named = rw (kind .d .given .1, arm .i4 .given .1) at (p .1 .1 .1) in
     (p .0, (p .1 .0, (p .1 .1 .0, named .0, named .1)))
+
+asking-requires-3 : tie.Need-asking-requires-3
+asking-requires-3 c κs = search needs
 
 add-to : tie.Need-add-to
 add-to c = search needs
@@ -97,8 +108,9 @@ same-length-2 c = search needs
 returns-2 : tie.Need-returns-2
 unfolding obeys executes
 returns-2 c =
-    let arm = c .before .before .before .before .before in
-    let e = c .before .before .load .ensures in
+    let call = c .before .before in
+    let arm = call .before .before .before in
+    let e = call .load .ensures in
     (rw (arm .before .before .before .d .given .1, arm .i .given .1) (e .0 _), e .1)
 
 same-length-3 : tie.Need-same-length-3
@@ -107,9 +119,10 @@ same-length-3 c = search needs
 returns-3 : tie.Need-returns-3
 unfolding obeys executes
 returns-3 c =
-    let arm = c .before .before .before .before .before in
-    let e = c .before .before .store .ensures in
-    (rw (arm .before .before .before .d .given .1, arm .i2 .given .1) (e .0 _), e .1)
+    let call = c .before .before .before in
+    let arm = call .before .before .before in
+    let e = call .store .ensures in
+    (rw (arm .before .before .before .d .given .1, arm .i2 .given .1) (e .0 _), hands-asking _ _ _ _ (search needs) (e .1) (c .asking2 .ensures))
 
 same-length-4 : tie.Need-same-length-4
 same-length-4 c = search needs
@@ -117,8 +130,9 @@ same-length-4 c = search needs
 returns-4 : tie.Need-returns-4
 unfolding obeys executes
 returns-4 c =
-    let arm = c .before .before .before .before .before in
-    let e = c .before .before .load-word .ensures in
+    let call = c .before .before in
+    let arm = call .before .before .before in
+    let e = call .load-word .ensures in
     (rw (arm .before .before .before .d .given .1, arm .i3 .given .1) (e .0 _), e .1)
 
 same-length-5 : tie.Need-same-length-5
@@ -127,9 +141,10 @@ same-length-5 c = search needs
 returns-5 : tie.Need-returns-5
 unfolding obeys executes
 returns-5 c =
-    let arm = c .before .before .before .before .before in
-    let e = c .before .before .store-word .ensures in
-    (rw (arm .before .before .before .d .given .1, arm .i4 .given .1) (e .0 _), e .1)
+    let call = c .before .before .before in
+    let arm = call .before .before .before in
+    let e = call .store-word .ensures in
+    (rw (arm .before .before .before .d .given .1, arm .i4 .given .1) (e .0 _), hands-asking _ _ _ _ (search needs) (e .1) (c .asking3 .ensures))
 
 same-length-6 : tie.Need-same-length-6
 same-length-6 c = search needs
@@ -143,7 +158,7 @@ returns-6 c =
     let p = arm .before .before .before .before .before .before .before .pre in
     let long = rw add-sub-cancel-left at (act .act .kept .0) in (
       rw (arm .before .before .d .given .1, act .act .ensures .0, add-sub-cancel-left, acts-alone),
-      act .act .ensures .1 ∙ rw add-sub-cancel-left (sym (counter-back _ _ (p .0) _ long)),
+      rw add-sub-cancel-left (hands-back _ _ (p .0) _ long _ (rw add-sub-cancel-left at (act .act .ensures .1))),
     )
 
 pub obey-spec : {M : Type 1} → statement M
@@ -153,16 +168,19 @@ obey-spec =
     enum-known-d
     enum-told
     fault-requires
+    asking-requires
     same-length
     returns
     enum-known-i
     load-requires
     enum-known-i-2
     store-requires
+    asking-requires-2
     enum-known-i-3
     load-word-requires
     enum-known-i-4
     store-word-requires
+    asking-requires-3
     add-to
     sub-act
     part-act-start

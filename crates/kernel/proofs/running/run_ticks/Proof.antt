@@ -2,7 +2,7 @@
 -- nothing; a state that stands has the slot, its partition and the segments in range.
 use Prim.Native.Nat.{ℕ, _-_, _<_, min}
 use mathlib.Core.Path.{_≡_, sym, _∙_}
-use mathlib.Core.Bool.{false}
+use mathlib.Core.Bool.{Bool, true, false}
 use mathlib.Core.Logic.{⊎-elim}
 use native.Mathlib.Omega.{arith}
 use lib.ListN.{getD, length}
@@ -125,18 +125,23 @@ wrapping-add-u32-requires c κs = search needs
 lesser-requires : tie.Need-lesser-requires Inv-loop μ-loop
 lesser-requires c κs = search needs
 
+-- What is answered is said of the partition's save bytes.
+told : (g : tie.After-is-able Inv-loop μ-loop) (b : Bool) → g .is-able .result ≡ b
+    → isAble (part (turn g .loop .memory) (getD (turn g .before .before .before .before .before .before .args .t1 .base) (getD (turn g .before .before .before .before .before .before .args .t1 .save) (ownerOf (tablesOf (turn g .before .before .before .before .before .before .args .t1)) (hereOf (turn g))) 0) 0) saveSize) ≡ b
+told g b e = rw (← g .before .wide .ensures) (sym (g .is-able .ensures) ∙ e)
+
 stretch-requires : tie.Need-stretch-requires Inv-loop μ-loop
 stretch-requires c κs =
-    let h = turn (c .before .before .before .before .before .before .before .before .before .before .before .before) in
+    let g = c .before .before .before .before .before .before .before .before .before .before .before .before in
+    let h = turn g in
     let k = h .before .before .before .before .before .before .good .0 in
     let in-room = room-in _ _ (h .before .before .before .before .before .before .pre .0) _ _ _ _ _ _ (h .loop .inv) (c .lesser .result) (omega (arith, c .lesser .ensures)) in (
-      tick-fits _ _ (h .before .before .before .before .before .before .pre .0) _ _ _ _ (h .loop .inv .reached) (omega arith) (search (needs, k)) (search (needs, k)),
-      omega (arith, many-few _ _ (h .before .before .before .before .before .before .pre .0) _ _ _ _ (h .loop .inv .reached) _ in-room),
+      (
+        tick-fits _ _ (h .before .before .before .before .before .before .pre .0) _ _ _ _ (h .loop .inv .reached) (omega arith) (search (needs, k)) (search (needs, k)),
+        omega (arith, many-few _ _ (h .before .before .before .before .before .before .pre .0) _ _ _ _ (h .loop .inv .reached) _ in-room),
+      ),
+      told g true (c .before .before .before .before .before .before .before .before .before .before .before .if1 .taken),
     )
-
-idle : (g : tie.After-is-able Inv-loop μ-loop) → g .is-able .result ≡ false
-    → isAble (part (turn g .loop .memory) (getD (turn g .before .before .before .before .before .before .args .t1 .base) (getD (turn g .before .before .before .before .before .before .args .t1 .save) (ownerOf (tablesOf (turn g .before .before .before .before .before .before .args .t1)) (hereOf (turn g))) 0) 0) saveSize) ≡ false
-idle g e = rw (← g .before .wide .ensures) (sym (g .is-able .ensures) ∙ e)
 
 module _ (f : tie.Joined1 Inv-loop μ-loop) where
   abbrev g : tie.After-is-able Inv-loop μ-loop
@@ -156,7 +161,7 @@ module _ (f : tie.Joined1 Inv-loop μ-loop) where
       → f .if1 .memory ≡ tickedBy (seat (viewOf t) p) (getD (t .partitions .code) p 0) (getD (t .partitions .save) p 0) (hereOf h .count) many (h .loop .memory)
   done many e =
       ⊎-elim (λ a. rw (e, ← a .11 .ensures, ← a .10 .ensures) (a .15 ∙ a .12 .ensures))
-      (λ a. a .1 ∙ sym (idle-ticks (seat (viewOf t) p) _ (getD (t .partitions .save) p 0) _ many (h .loop .memory) (idle g (a .0 .left))))
+      (λ a. a .1 ∙ sym (idle-ticks (seat (viewOf t) p) _ (getD (t .partitions .save) p 0) _ many (h .loop .memory) (told g false (a .0 .left))))
       (f .if1 .came)
 
 wrapping-add-u32-requires-2 : tie.Need-wrapping-add-u32-requires-2 Inv-loop μ-loop
