@@ -4,12 +4,14 @@ use mathlib.Core.Path.{_≡_}
 use mathlib.Core.Bool.{false}
 use mathlib.Core.List.{List, []}
 use lib.ListN.{getD}
+use Rattle.bits.specs.Masks.{has}
 use Rattle.text.specs.declared.line.Line.{Line}
 use Rattle.text.specs.declared.line.Line.the-variants.{Bad, Segment, Partition, Right, Flow, Slot}
 use Rattle.policy.specs.Limits.{single}
 use Rattle.policy.specs.View.{View}
 use Rattle.policy.specs.Order.{idSkips}
 use Rattle.policy.specs.Range.{outOfRange}
+use Rattle.policy.specs.Clash.{isSave}
 use Rattle.policy.specs.Tables.{Tables, viewOf}
 
 -- The record with these counts, segments, partitions and slots. Rights and flow lines are left out.
@@ -45,6 +47,10 @@ scheduled partitions owner ticks = viewOf (partTables 0 partitions 0 [] [] [] []
 abbrev pub EndedBy : List ℕ → List ℕ → ℕ → ℕ → Type 0
 EndedBy base size n end = (j : ℕ) → j < n → getD base j 0 + getD size j 0 ≤ end
 
+-- The bits of a mask are the save segments of the first n partitions.
+abbrev pub Barred : List ℕ → ℕ → ℕ → Type 0
+Barred save n mask = (s : ℕ) → has mask s ≡ isSave (placed 0 n [] [] [] save) s
+
 -- Where the segment ends that a line gives.
 abbrev pub endOf : Line → ℕ
 endOf Bad = 0
@@ -53,6 +59,15 @@ endOf (Partition id code save) = 0
 endOf (Right partition segment mode) = 0
 endOf (Flow from to) = 0
 endOf (Slot partition ticks) = 0
+
+-- The segment that a right line names.
+abbrev pub rightOn : Line → ℕ
+rightOn Bad = 0
+rightOn (Segment id base size) = 0
+rightOn (Partition id code save) = 0
+rightOn (Right partition segment mode) = segment
+rightOn (Flow from to) = 0
+rightOn (Slot partition ticks) = 0
 
 -- A line that 3 and 4 let pass, and a record within the limits: what the line adds then has a place there.
 pub record Fits (v : View) (line : Line) : Type 0 where

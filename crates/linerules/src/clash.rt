@@ -1,5 +1,6 @@
 // Refusal 5: "a segment overlaps an earlier one; a save segment's length isn't 44; a segment is save of two partitions,
 // or code of one and save of the same or another; a right names a save segment; a flow goes from a segment to itself".
+use bits::has_bit;
 use bytes::byte_at;
 use bytes::half_at;
 use policy::SAVE_SIZE;
@@ -7,10 +8,9 @@ use text::Line;
 ghost use Prim.Native.Nat.{_+_, _<_, _≤_};
 ghost use mathlib.Core.Path.{_≡_};
 ghost use mathlib.Core.List.{[]};
-ghost use lib.ListN.{length};
-ghost use Rattle.policy.specs.Clash.{overlapsEarlier, sharesEarlier, partitionClashes, isSave, clashes};
+ghost use Rattle.policy.specs.Clash.{overlapsEarlier, sharesEarlier, partitionClashes, clashes};
 ghost use Rattle.policy.specs.Limits.{single};
-ghost use Rattle.linerules.specs.Parts.{endOf, placed};
+ghost use Rattle.linerules.specs.Parts.{Barred, EndedBy, endOf, placed, rightOn};
 
 // In u32, which the compiler tests many at once.
 pub(crate) fn overlaps_earlier<'a>(
@@ -59,21 +59,6 @@ fn shares_earlier<'a>(
     false
 }
 
-// The save segments are indexed bare: a right line looks at each.
-fn is_save<'a>(partitions: u8, saves: &'a [u8], segment: u32) -> bool
-    requires { ⌜ partitions ≤ length (now saves) ⌝ }
-    ensures { λ r. ⌜ r ≡ isSave (placed 0 partitions [] [] [] (now (saves .entry))) segment ⌝ }
-{
-    let mut i: u8 = 0;
-    while i < partitions {
-        if segment == saves[i as usize] as u32 {
-            return true;
-        }
-        i += 1;
-    }
-    false
-}
-
 pub(crate) fn partition_clashes<'a>(
     partitions: u8,
     sizes: &'a [u16],
@@ -92,7 +77,8 @@ pub(crate) fn partition_clashes<'a>(
     (bytes != SAVE_SIZE) | (code == save) | shared
 }
 
-// For a line that rule 4 lets pass.
+// For a line that rule 4 lets pass. The save segments so far are the bits of `barred`. The segments before have ended at
+// `ended`: one that begins there or later is compared with none of them.
 pub(crate) fn clashes<'a>(
     segments: u8,
     partitions: u8,
@@ -100,10 +86,14 @@ pub(crate) fn clashes<'a>(
     sizes: &'a [u16],
     codes: &'a [u8],
     saves: &'a [u8],
+    barred: u32,
+    ended: u32,
     line: Line,
 ) -> bool
     requires { ⌜ endOf line ≤ single .memory ⌝ }
-    requires { ⌜ partitions ≤ length (now saves) ⌝ }
+    requires { ⌜ rightOn line < single .segments ⌝ }
+    requires { ⌜ Barred (now saves) partitions barred ⌝ }
+    requires { ⌜ EndedBy (now bases) (now sizes) segments ended ⌝ }
     ensures { λ r. ⌜ r ≡
         clashes
         (placed
@@ -117,7 +107,13 @@ pub(crate) fn clashes<'a>(
 {
     match line {
         Line::Bad => false,
-        Line::Segment { base, size, .. } => overlaps_earlier(segments, bases, sizes, base, size),
+        Line::Segment { base, size, .. } => {
+            if ended <= base {
+                false
+            } else {
+                overlaps_earlier(segments, bases, sizes, base, size)
+            }
+        }
         Line::Partition { code, save, .. } => partition_clashes(
             partitions,
             sizes,
@@ -126,7 +122,7 @@ pub(crate) fn clashes<'a>(
             code,
             save,
         ),
-        Line::Right { segment, .. } => is_save(partitions, saves, segment),
+        Line::Right { segment, .. } => has_bit(barred as u64, segment),
         Line::Flow { from, to } => from == to,
         Line::Slot { .. } => false,
     }

@@ -7,10 +7,9 @@ use policy::Refusal;
 use text::Line;
 ghost use Prim.Native.Nat.{_≤_};
 ghost use mathlib.Core.Path.{_≡_};
-ghost use lib.ListN.{length};
 ghost use Rattle.policy.specs.Limits.{single};
 ghost use Rattle.policy.specs.Read.{isBad, lineRefusal};
-ghost use Rattle.linerules.specs.Parts.{partView};
+ghost use Rattle.linerules.specs.Parts.{Barred, EndedBy, partView};
 
 fn is_bad(line: Line) -> bool
     ensures { λ r. ⌜ r ≡ isBad line ⌝ }
@@ -26,6 +25,7 @@ fn is_bad(line: Line) -> bool
 }
 
 // The answer for the n-th line after those that gave these counts and arrays, of which the last had the key before.
+// The save segments so far are the bits of `barred`, and all segments so far have ended at `ended`.
 pub fn line_refusal<'a>(
     segments: u8,
     partitions: u8,
@@ -34,11 +34,15 @@ pub fn line_refusal<'a>(
     size: &'a [u16],
     code: &'a [u8],
     save: &'a [u8],
+    barred: u32,
+    ended: u32,
     before: Key,
     line: Line,
     n: u32,
 ) -> Refusal
-    requires { ⌜ partitions ≤ length (now save) ⌝ }
+    requires { ⌜ segments ≤ single .segments ⌝ }
+    requires { ⌜ Barred (now save) partitions barred ⌝ }
+    requires { ⌜ EndedBy (now base) (now size) segments ended ⌝ }
     ensures { λ r. ⌜ r ≡
         lineRefusal single n before
         (partView
@@ -60,7 +64,17 @@ pub fn line_refusal<'a>(
     if out_of_range(segments, partitions, slots, line) {
         return Refusal::OutOfRange(n);
     }
-    if clashes(segments, partitions, base, size, code, save, line) {
+    if clashes(
+        segments,
+        partitions,
+        base,
+        size,
+        code,
+        save,
+        barred,
+        ended,
+        line,
+    ) {
         return Refusal::Clash(n);
     }
     Refusal::Accepted

@@ -2,8 +2,8 @@
 use policy::Key;
 use text::Line;
 ghost use mathlib.Core.Path.{_≡_};
-ghost use mathlib.Core.Bool.{_&&_, not};
-ghost use lib.Dec.{eqb};
+ghost use mathlib.Core.Bool.{_&&_, _||_, not};
+ghost use lib.Dec.{eqb, ltb};
 ghost use Rattle.policy.specs.Order.{keyOf, ascends, outOfOrder};
 ghost use Rattle.linerules.specs.Parts.{counted};
 
@@ -49,18 +49,15 @@ pub fn key_of(line: Line) -> Key
     }
 }
 
-// Whether the line before is of this kind and its pair not below this one.
+// Whether the line before is of a later kind, or of this one and its pair not below this one.
 fn falls(before: Key, kind: u8, first: u32, second: u32) -> bool
-    ensures { λ r. ⌜ r ≡ eqb (before .kind) kind && not (ascends before first second) ⌝ }
+    ensures { λ r. ⌜ r ≡ ltb kind (before .kind) || eqb (before .kind) kind && not (ascends before first second) ⌝ }
 {
     if before.kind != kind {
-        return false;
+        return kind < before.kind;
     }
-    if before.first < first {
-        return false;
-    }
-    if first < before.first {
-        return true;
+    if before.first != first {
+        return first < before.first;
     }
     second <= before.second
 }
@@ -76,8 +73,8 @@ pub(crate) fn out_of_order(before: Key, segments: u8, partitions: u8, line: Line
             partition,
             segment,
             ..
-        } => (2 < before.kind) | falls(before, 2, partition, segment),
-        Line::Flow { from, to } => (3 < before.kind) | falls(before, 3, from, to),
+        } => falls(before, 2, partition, segment),
+        Line::Flow { from, to } => falls(before, 3, from, to),
         Line::Slot { .. } => 4 < before.kind,
     }
 }

@@ -1,5 +1,5 @@
 // The lines of a text, one after another, and the rules for the whole at the end.
-ghost use Prim.Native.Nat.{_≤_};
+ghost use Prim.Native.Nat.{_+_, _<_, _≤_};
 ghost use mathlib.Core.Path.{_≡_};
 ghost use lib.ListN.{length};
 ghost use Rattle.text.specs.Lines.{linesOf};
@@ -33,6 +33,15 @@ pub fn refused(refusal: Refusal) -> Reading
     }
 }
 
+// Where the segments have ended, with one more.
+fn end_after(ended: u32, base: u32, size: u32) -> u32
+    requires { ⌜ base + size < 4294967296 ⌝ }
+    ensures { λ r. ⌜ (ended ≤ r) × (base + size ≤ r) ⌝ }
+{
+    let end = base + size;
+    if ended < end { end } else { ended }
+}
+
 // The answer for a text that is not too long. What a line adds is stored in the loop itself: a record that is handed by
 // value to a function and back is copied for each line.
 pub fn read_lines(text: &[u8]) -> Reading
@@ -45,6 +54,9 @@ pub fn read_lines(text: &[u8]) -> Reading
         first: 0,
         second: 0,
     };
+    // The save segments so far, and where the segments so far have ended: a line is tested against these at once.
+    let mut barred: u32 = 0;
+    let mut ended: u32 = 0;
     let mut c = Cursor { at: 0, line: 1 };
     while c.at < text.len() {
         let n = c.line;
@@ -58,6 +70,8 @@ pub fn read_lines(text: &[u8]) -> Reading
             &policy.size,
             &policy.code,
             &policy.save,
+            barred,
+            ended,
             before,
             line,
             n,
@@ -71,11 +85,13 @@ pub fn read_lines(text: &[u8]) -> Reading
                 policy.base[id as usize] = base as u16;
                 policy.size[id as usize] = size as u16;
                 policy.segments = (id + 1) as u8;
+                ended = end_after(ended, base, size);
             }
             Line::Partition { id, code, save } => {
                 policy.code[id as usize] = code as u8;
                 policy.save[id as usize] = save as u8;
                 policy.partitions = (id + 1) as u8;
+                barred = with_low_bit(barred, save);
             }
             Line::Right {
                 partition,

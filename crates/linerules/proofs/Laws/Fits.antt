@@ -11,7 +11,7 @@ use Rattle.policy.specs.Limits.{single}
 use Rattle.policy.specs.View.{View}
 use Rattle.policy.specs.Range.{outside, outOfRange}
 use Rattle.policy.proofs.Laws.Bools.{or-both, or-all}
-use Rattle.linerules.specs.Parts.{endOf, Fits}
+use Rattle.linerules.specs.Parts.{endOf, rightOn, Fits}
 
 pub range-ends : (v : View) (line : Line) → outOfRange single v line ≡ false → endOf line ≤ single .memory
 unfolding outOfRange
@@ -22,6 +22,17 @@ range-ends v (Partition id code save) h = omega arith
 range-ends v (Right partition segment mode) h = omega arith
 range-ends v (Flow from to) h = omega arith
 range-ends v (Slot partition ticks) h = omega arith
+
+pub range-names : (v : View) (line : Line) → outOfRange single v line ≡ false → v .segments ≤ single .segments →
+    rightOn line < single .segments
+unfolding outOfRange
+range-names v Bad h few = omega arith
+range-names v (Segment id base size) h few = omega arith
+range-names v (Partition id code save) h few = omega arith
+range-names v (Right partition segment mode) h few =
+    let t = or-both (leb (v .partitions) partition) (leb (v .segments) segment) h in omega (arith, leb-false)
+range-names v (Flow from to) h few = omega arith
+range-names v (Slot partition ticks) h few = omega arith
 
 module _ (v : View) where
   pub segment-fits : (id base size : ℕ) → Fits v (Segment id base size) → (id < 32) × (base < 65536) × (size < 65536)

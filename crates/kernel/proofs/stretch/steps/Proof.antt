@@ -49,7 +49,7 @@ same-length c = c .before .before .loop .inv .0
 returns : tie.Need-returns Inv-loop μ-loop
 returns c =
     let v = c .before .before .loop .inv in
-    (fewer _ _ _ _ (c .if1 .taken) (v .4), λ count h e. v .1 count h e .memory)
+    (fewer _ _ _ _ (omega (arith, c .if1 .taken)) (v .4), λ count h e. v .1 count h e .memory)
 
 wrapping-sub-u32-requires : tie.Need-wrapping-sub-u32-requires Inv-loop μ-loop
 wrapping-sub-u32-requires c κs = search needs

@@ -1,7 +1,7 @@
 -- The tests stand in the order of the rules, each on the part of the record that it reads.
 use mathlib.Core.Path.{sym, _∙_}
 use borrow.Author.Needs.{needs}
-use Rattle.linerules.proofs.Laws.Fits.{range-ends}
+use Rattle.linerules.proofs.Laws.Fits.{range-ends, range-names}
 use Rattle.linerules.proofs.Laws.Parts.{line-part}
 use Rattle.linerules.proofs.line.line_refusal.Statement.{statement}
 use Rattle.linerules.proofs.line.line_refusal.Tie as tie
@@ -31,7 +31,8 @@ returns-3 c =
 
 clashes-requires : tie.Need-clashes-requires
 clashes-requires c κs =
-    (range-ends _ _ (sym (c .before .out-of-range .ensures) ∙ c .if3 .left), search needs)
+    let ranged = sym (c .before .out-of-range .ensures) ∙ c .if3 .left in
+    (range-ends _ _ ranged, (range-names _ _ ranged (search needs), (search needs, search needs)))
 
 returns-4 : tie.Need-returns-4
 returns-4 c =

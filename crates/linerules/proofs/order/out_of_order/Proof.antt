@@ -43,11 +43,11 @@ returns-3 c = rw (c .before .before .line2 .given .1, or-false)
 
 returns-4 : tie.Need-returns-4
 unfolding outOfOrder
-returns-4 c = rw (c .before .before .before .line3 .given .1, or-false, c .falls .ensures)
+returns-4 c = rw (c .before .before .line3 .given .1, or-false, c .falls .ensures)
 
 returns-5 : tie.Need-returns-5
 unfolding outOfOrder
-returns-5 c = rw (c .before .before .before .line4 .given .1, or-false, c .falls2 .ensures)
+returns-5 c = rw (c .before .before .line4 .given .1, or-false, c .falls2 .ensures)
 
 returns-6 : tie.Need-returns-6
 unfolding outOfOrder

@@ -1,6 +1,7 @@
--- Before each line, what is left to read gives the answer of the whole text (Reached); the text grows shorter with each
--- line. A line that no rule refuses has its place in the record, and what is stored there is what the line adds.
-use Prim.Native.Nat.{_-_, _<_}
+-- Before each line, what is left to read gives the answer of the whole text (Reached), the mask holds the save segments
+-- (Saves), and the segments have ended (Ended); the text grows shorter with each line. A line that no rule refuses has its
+-- place in the record, and what is stored there is what the line adds.
+use Prim.Native.Nat.{_-_, _<_, _≤_}
 use mathlib.Core.Path.{_≡_, sym, _∙_, ap}
 use mathlib.Core.Logic.{⊎-elim}
 use native.Mathlib.Omega.{arith}
@@ -11,36 +12,39 @@ use Rattle.policy.specs.Draft.{added}
 use Rattle.policy.specs.Order.{keyOf}
 use Rattle.policy.specs.Record.{tablesOf}
 use Rattle.policy.specs.Tables.{viewOf}
-use Rattle.linerules.specs.Parts.{Fits}
+use Rattle.linerules.specs.Parts.{Fits, endOf}
 use Rattle.linerules.proofs.Laws.Fits.{segment-fits, partition-fits, right-fits, flow-fits, slot-fits}
 use Rattle.readlines.proofs.Laws.Answers.{end-record, end-zeros}
+use Rattle.readlines.proofs.Laws.Ends.{Ended, ended-none, ended-more, still}
 use Rattle.readlines.proofs.Laws.Run.{Reached, reached-first}
+use Rattle.readlines.proofs.Laws.Saves.{Saves, barredWith, saves-none, saves-more}
 use Rattle.readlines.proofs.Laws.Stored.{stored-right}
 use Rattle.readlines.proofs.Laws.Step.{step-refused, step-fits, step-more, step-shorter}
 use Rattle.readlines.proofs.lines.read_lines.Statement.{statement}
 use Rattle.readlines.proofs.lines.read_lines.Tie as tie
 
 abbrev Inv-loop : tie.InvT-loop
-Inv-loop text policy₀ before₀ c₀ policy before c = Reached text (tablesOf policy) before (c .at) (c .line)
+Inv-loop text policy₀ before₀ barred₀ ended₀ c₀ policy before barred ended c =
+    Reached text (tablesOf policy) before (c .at) (c .line) × Saves (tablesOf policy) barred × Ended (tablesOf policy) ended
 
 abbrev μ-loop : tie.MeasureT-loop
-μ-loop text policy₀ before₀ c₀ policy before c = length text - c .at
+μ-loop text policy₀ before₀ barred₀ ended₀ c₀ policy before barred ended c = length text - c .at
 
 zeros-requires : tie.Need-zeros-requires Inv-loop μ-loop
 zeros-requires c κs = search needs
 
 loop-holds : tie.Need-loop-holds Inv-loop μ-loop
-loop-holds c = rw (c .zeros .ensures) (reached-first _)
+loop-holds c = (rw (c .zeros .ensures) (reached-first _), saves-none _ (c .zeros .ensures), ended-none _ (c .zeros .ensures))
 
 line-from-requires : tie.Need-line-from-requires Inv-loop μ-loop
 line-from-requires c κs =
     let head = c .before .before in
-    (head .loop .inv .within, omega (arith, head .loop .inv .counted, c .if1 .taken, head .before .before .before .pre))
+    (head .loop .inv .0 .within, omega (arith, head .loop .inv .0 .counted, c .if1 .taken, head .before .before .before .pre))
 
 line-refusal-requires : tie.Need-line-refusal-requires Inv-loop μ-loop
 line-refusal-requires c κs =
-    let few = c .before .before .before .before .before .before .before .before .before .before .before .before .loop .inv .kept .counts .partitions in
-    search needs
+    let inv = c .before .before .before .before .before .before .before .before .before .before .before .before .loop .inv in
+    (inv .0 .kept .counts .segments, (inv .1, inv .2))
 
 is-accepted-requires : tie.Need-is-accepted-requires Inv-loop μ-loop
 is-accepted-requires c κs = search needs
@@ -53,7 +57,7 @@ returns c =
     let ruled = c .before .before .before in
     let line = ruled .before .before .before .before .before .before .before .before .before .before in
     c .refused .ensures
-    ∙ step-refused _ _ _ _ _ (line .before .before .before .loop .inv) (line .before .if1 .taken)
+    ∙ step-refused _ _ _ _ _ (line .before .before .before .loop .inv .0) (line .before .if1 .taken)
     _ _ (line .line-from .ensures) (ruled .line-refusal .ensures)
     (sym (c .before .before .is-accepted .ensures) ∙ not-true _ (c .before .if2 .taken))
 
@@ -64,7 +68,7 @@ fits : (e : tie.Else2 Inv-loop μ-loop) →
 fits e =
     let ruled = e .before .before in
     let line = ruled .before .before .before .before .before .before .before .before .before .before in
-    step-fits _ _ _ _ _ (line .before .before .before .loop .inv) (line .before .if1 .taken)
+    step-fits _ _ _ _ _ (line .before .before .before .loop .inv .0) (line .before .if1 .taken)
     _ _ (line .line-from .ensures) (ruled .line-refusal .ensures)
     (sym (e .before .is-accepted .ensures) ∙ not-false _ (e .if2 .left))
 
@@ -124,6 +128,9 @@ add-policy c = omega (arith, segment-in c)
 cast-policy-5 : tie.Need-cast-policy-5 Inv-loop μ-loop
 cast-policy-5 c = omega (arith, segment-in c)
 
+end-after-requires : tie.Need-end-after-requires Inv-loop μ-loop
+end-after-requires c κs = omega (arith, segment-in c)
+
 enum-known-line-2 : tie.Need-enum-known-line-2 Inv-loop μ-loop
 enum-known-line-2 c = search needs
 
@@ -150,6 +157,9 @@ add-policy-2 c = omega (arith, partition-in c)
 
 cast-policy-10 : tie.Need-cast-policy-10 Inv-loop μ-loop
 cast-policy-10 c = omega (arith, partition-in c)
+
+with-low-bit-requires : tie.Need-with-low-bit-requires Inv-loop μ-loop
+with-low-bit-requires c κs = partition-in c .2
 
 enum-known-line-3 : tie.Need-enum-known-line-3 Inv-loop μ-loop
 enum-known-line-3 c = search needs
@@ -199,8 +209,8 @@ mul-with-low-bit c = omega (arith, flow-in c)
 element-copy-out-with-low-bit : tie.Need-element-copy-out-with-low-bit Inv-loop μ-loop
 element-copy-out-with-low-bit c = omega (arith, flow-in c)
 
-with-low-bit-requires : tie.Need-with-low-bit-requires Inv-loop μ-loop
-with-low-bit-requires c κs = flow-in (c .before) .0
+with-low-bit-requires-2 : tie.Need-with-low-bit-requires-2 Inv-loop μ-loop
+with-low-bit-requires-2 c κs = flow-in (c .before) .0
 
 mul-policy-5 : tie.Need-mul-policy-5 Inv-loop μ-loop
 mul-policy-5 c = omega (arith, flow-in (c .before .before))
@@ -235,31 +245,29 @@ element-write-policy-9 c = omega (arith, slot-in c)
 add-policy-3 : tie.Need-add-policy-3 Inv-loop μ-loop
 add-policy-3 c = omega (arith, slot-in c)
 
--- What the arms store is what the line adds, and the line stays what it was.
-stored : (c : tie.At-match-came Inv-loop μ-loop) → tablesOf (c .match .policy) ≡ added (tablesOf (c .before .before .before .before .before .before .before .before .before .before .before .before .before .before .before .before .loop .policy)) (c .before .before .before .before .before .before .before .before .before .before .before .before .before .line-from .result .line)
+-- What the arms store is what the line adds, and the line stays what it was. A partition line sets the bit of its save
+-- segment; the end only grows, and a segment line's own is not past it.
+arms : (c : tie.At-match-came Inv-loop μ-loop) →
+    let was = c .before .before .before .before .before .before .before .before .before .before .before .before .before .before .before .before .loop in
+    let line = c .before .before .before .before .before .before .before .before .before .before .before .before .before .line-from .result .line in
+    (tablesOf (c .match .policy) ≡ added (tablesOf (was .policy)) line)
+    × (c .match .line ≡ line)
+    × (c .match .barred ≡ barredWith (was .barred) line)
+    × ((was .ended ≤ c .match .ended) × (endOf line ≤ c .match .ended))
 unfolding added
-stored c =
-    ⊎-elim (λ a. rw (a .1 .given .1) (ap tablesOf (a .2)))
-    (⊎-elim (λ a. rw (a .1 .given .1) (ap tablesOf (a .3)))
-    (⊎-elim (λ a. rw (a .1 .given .1) (ap tablesOf (a .3)))
+arms c =
+    let was = c .before .before .before .before .before .before .before .before .before .before .before .before .before .before .before .before .loop .policy in
+    ⊎-elim (λ a. rw (a .1 .given .1) (ap tablesOf (a .2), a .5 ∙ a .1 .given .1, a .3, still _ _ (a .4)))
+    (⊎-elim (λ a. rw (a .1 .given .1) (ap tablesOf (a .4), a .7, a .5, rw (a .6) (a .3 .ensures)))
+    (⊎-elim (λ a. rw (a .1 .given .1) (ap tablesOf (a .4), a .7, a .5 ∙ a .3 .ensures, still _ _ (a .6)))
     (⊎-elim
     (λ a.
-    rw (a .1 .given .1)
-    (ap tablesOf (a .7)
-    ∙ stored-right (c .before .before .before .before .before .before .before .before .before .before .before .before .before .before .before .before .loop .policy)
-    (a .1 .given .0 .0) (a .1 .given .0 .1 .0) (a .1 .given .0 .1 .1 .0) _ _ (a .4 .ensures) (a .6 .ensures)))
+    let g = a .1 .given .0 in
+    let masks = stored-right was (g .0) (g .1 .0) (g .1 .1 .0) _ _ (a .4 .ensures) (a .6 .ensures) in
+    rw (a .1 .given .1) (ap tablesOf (a .7) ∙ masks, a .10, a .8, still _ _ (a .9)))
     (⊎-elim
-    (λ a. rw (a .1 .given .1) (ap tablesOf (a .5) ∙ rw (a .4 .ensures)))
-    (λ a. rw (a .1 .given .1) (ap tablesOf (a .3)))))))
-    (c .match .came)
-
-same-line : (c : tie.At-match-came Inv-loop μ-loop) → c .match .line ≡ c .before .before .before .before .before .before .before .before .before .before .before .before .before .line-from .result .line
-same-line c =
-    ⊎-elim (λ a. a .3)
-    (⊎-elim (λ a. a .4 ∙ sym (a .1 .given .1))
-    (⊎-elim (λ a. a .4 ∙ sym (a .1 .given .1))
-    (⊎-elim (λ a. a .8 ∙ sym (a .1 .given .1))
-    (⊎-elim (λ a. a .6 ∙ sym (a .1 .given .1)) (λ a. a .4 ∙ sym (a .1 .given .1))))))
+    (λ a. rw (a .1 .given .1) (ap tablesOf (a .5) ∙ rw (a .4 .ensures), a .8, a .6, still _ _ (a .7)))
+    (λ a. rw (a .1 .given .1) (ap tablesOf (a .3), a .6, a .4, still _ _ (a .5)))))))
     (c .match .came)
 
 key-of-requires : tie.Need-key-of-requires Inv-loop μ-loop
@@ -272,23 +280,29 @@ loop-less c =
     omega (
       arith,
       line .before .if1 .taken,
-      step-shorter _ _ _ _ _ (line .before .before .before .loop .inv) (line .before .if1 .taken)
+      step-shorter _ _ _ _ _ (line .before .before .before .loop .inv .0) (line .before .if1 .taken)
           _ _ (line .line-from .ensures) (ruled .line-refusal .ensures)
           (sym (c .before .before .before .before .is-accepted .ensures) ∙ not-false _ (c .before .before .before .if2 .left)),
     )
 
 loop-again : tie.Need-loop-again Inv-loop μ-loop
 loop-again c =
-    let ruled = c .before .before .before .before .before in
+    let came = c .before .before in
+    let ruled = came .before .before .before in
     let line = ruled .before .before .before .before .before .before .before .before .before .before in
-    step-more _ _ _ _ _ (line .before .before .before .loop .inv) (line .before .if1 .taken)
-    _ _ (line .line-from .ensures) (ruled .line-refusal .ensures)
-    _ _ (sym (c .before .before .before .before .is-accepted .ensures) ∙ not-false _ (c .before .before .before .if2 .left))
-    (stored (c .before .before)) (c .before .key-of .ensures ∙ ap keyOf (same-line (c .before .before)))
+    let inv = line .before .before .before .loop .inv in
+    let arm = arms came in (
+      step-more _ _ _ _ _ (inv .0) (line .before .if1 .taken)
+          _ _ (line .line-from .ensures) (ruled .line-refusal .ensures)
+          _ _ (sym (came .before .before .is-accepted .ensures) ∙ not-false _ (came .before .if2 .left))
+          (arm .0) (c .before .key-of .ensures ∙ ap keyOf (arm .1)),
+      saves-more _ _ (inv .0 .kept .lengths) (inv .1) _ (fits (came .before)) _ (arm .2) _ (arm .0),
+      ended-more _ _ _ (inv .0 .kept .lengths) (inv .2) (arm .3 .0) _ (fits (came .before)) (arm .3 .1) _ (arm .0),
+    )
 
 record-refusal-requires : tie.Need-record-refusal-requires Inv-loop μ-loop
 record-refusal-requires c κs =
-    let counts = c .before .before .before .before .before .before .before .before .before .before .before .before .before .loop .inv .kept .counts in
+    let counts = c .before .before .before .before .before .before .before .before .before .before .before .before .before .loop .inv .0 .kept .counts in
     ((counts .segments, counts .partitions), search needs)
 
 is-accepted-requires-2 : tie.Need-is-accepted-requires-2 Inv-loop μ-loop
@@ -297,7 +311,7 @@ is-accepted-requires-2 c κs = search needs
 returns-2 : tie.Need-returns-2 Inv-loop μ-loop
 returns-2 c =
     let end = c .before .before .before .before .before .before .before .before .before .before .before .before .before .before in
-    end-record _ _ _ _ _ (end .before .before .loop .inv) (end .if1 .left) _ (c .before .before .record-refusal .ensures)
+    end-record _ _ _ _ _ (end .before .before .loop .inv .0) (end .if1 .left) _ (c .before .before .record-refusal .ensures)
     (sym (c .before .is-accepted2 .ensures) ∙ c .if3 .taken)
 
 refused-requires-2 : tie.Need-refused-requires-2 Inv-loop μ-loop
@@ -307,7 +321,7 @@ returns-3 : tie.Need-returns-3 Inv-loop μ-loop
 returns-3 c =
     let end = c .before .before .before .before .before .before .before .before .before .before .before .before .before .before .before in
     c .refused2 .ensures
-    ∙ end-zeros _ _ _ _ _ (end .before .before .loop .inv) (end .if1 .left) _ (c .before .before .before .record-refusal .ensures)
+    ∙ end-zeros _ _ _ _ _ (end .before .before .loop .inv .0) (end .if1 .left) _ (c .before .before .before .record-refusal .ensures)
     (sym (c .before .before .is-accepted2 .ensures) ∙ c .before .if3 .left)
 
 pub read-lines-spec : {M : Type 1} → statement M
@@ -335,6 +349,7 @@ read-lines-spec =
     element-write-policy-2
     add-policy
     cast-policy-5
+    end-after-requires
     enum-known-line-2
     cast-policy-6
     cast-policy-7
@@ -344,6 +359,7 @@ read-lines-spec =
     element-write-policy-4
     add-policy-2
     cast-policy-10
+    with-low-bit-requires
     enum-known-line-3
     cast-p
     mul-with-read
@@ -360,7 +376,7 @@ read-lines-spec =
     cast-t
     mul-with-low-bit
     element-copy-out-with-low-bit
-    with-low-bit-requires
+    with-low-bit-requires-2
     mul-policy-5
     element-write-policy-7
     enum-known-line-5
