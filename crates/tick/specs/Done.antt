@@ -3,7 +3,7 @@ use Prim.Native.Nat.{ℕ}
 use mathlib.Core.List.{List}
 use Rattle.machine.specs.declared.Decoded.{Decoded}
 use Rattle.machine.specs.Bytes.{part}
-use Rattle.machine.specs.Tick.{Seat, Sees, looks, loads, storesBytes, obeys, steps, effect, applied}
+use Rattle.machine.specs.Tick.{Seat, Sees, looks, loads, storesBytes, obeys, effect, applied}
 use Rattle.parts.specs.Parts.{savedAt, withSaved}
 
 module _ (S : Seat) where
@@ -21,9 +21,6 @@ module _ (S : Seat) where
   abbrev pub seesFrom : ℕ → ℕ → ℕ → ℕ → List ℕ → Sees
   seesFrom from start room count memory =
       record { saved = savedAt memory from; code = part memory start room; look = looks S memory; count = count }
-
-  abbrev pub stepped : ℕ → ℕ → ℕ → ℕ → List ℕ → List ℕ
-  stepped from start room count memory = applied S from (steps S room (seesFrom from start room count memory)) memory
 
   -- The machine's tick of a partition is this one, at its segments' bases and its code's size.
   abbrev pub ticked : ℕ → ℕ → ℕ → ℕ → List ℕ → List ℕ

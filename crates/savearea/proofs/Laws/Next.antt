@@ -37,10 +37,10 @@ beyond-word s at n below =
     let three = beyond-set s (set (set s at (n % 256)) (at + 1) (n / 256 % 256)) (at + 2) (n / 65536 % 256) (omega arith) two in
     beyond-set s (set (set (set s at (n % 256)) (at + 1) (n / 256 % 256)) (at + 2) (n / 65536 % 256)) (at + 3) (n / 16777216 % 256) (omega arith) three
 
-pub plain-counter : (s : List ℕ) (n : ℕ) → isPlain (withCounter s n) ≡ isPlain s
+plain-counter : (s : List ℕ) (n : ℕ) → isPlain (withCounter s n) ≡ isPlain s
 plain-counter s n = plain-beyond s _ (beyond-half s n)
 
-pub plain-advanced : (s : List ℕ) → isPlain (advanced s) ≡ isPlain s
+plain-advanced : (s : List ℕ) → isPlain (advanced s) ≡ isPlain s
 unfolding advanced
 plain-advanced s = plain-counter s _
 

@@ -122,7 +122,3 @@ module _ (text : List ℕ) (at : ℕ) where
   pub step-end : stopAt text at ≡ lineEnd → Last
   step-end e =
       by-stop Last (λ f g. absurd (omega (arith, e, f))) (λ f g. g) (λ f g. absurd (omega (arith, e, f)))
-
-  pub step-none : stopAt text at ≡ 0 → length text ≤ end
-  step-none e =
-      by-stop (length text ≤ end) (λ f g. absurd (omega (arith, e, f))) (λ f g. absurd (omega (arith, e, f))) (λ f g. g)
