@@ -1,4 +1,3 @@
 pub mod Masks
 pub mod Copied
 pub mod Sets
-pub mod Gather

@@ -1,3 +1,2 @@
 -- Masks of bits, and of several masks together.
 pub mod Masks
-pub mod Gather

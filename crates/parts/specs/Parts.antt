@@ -1,7 +1,8 @@
 -- The save bytes by their place in memory, and a load and a store of so many bytes between two parts of memory.
 use Prim.Native.Nat.{ℕ, _+_}
-use mathlib.Core.Bool.{cond}
+use mathlib.Core.Bool.{Bool, _||_, cond}
 use mathlib.Core.List.{List}
+use lib.Dec.{leb}
 use lib.Seq.{sets}
 use Rattle.machine.specs.declared.Fault.the-variants.{OffsetOver}
 use Rattle.machine.specs.Bytes.{part, withPart, little, digits}
@@ -31,3 +32,7 @@ storedTo width memory from start size a b =
     cond (inSegment width (register save b) size)
     (sets (withSaved memory from (advanced save)) (start + register save b) (digits width (register save a)))
     (withSaved memory from (faults save OffsetOver))
+
+-- None of so many bytes from a place on is one of the save bytes.
+unfoldable pub isBeside : ℕ → ℕ → ℕ → Bool
+isBeside from at width = leb (at + width) from || leb (from + layout .size) at

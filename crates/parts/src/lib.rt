@@ -15,7 +15,8 @@ use savearea::layout::COUNTER;
 use savearea::layout::READY;
 use savearea::layout::STATE;
 ghost use mathlib.Core.Path.{_≡_};
-ghost use Prim.Native.Nat.{_+_, _≤_, _<_};
+ghost use mathlib.Core.Bool.{true};
+ghost use Prim.Native.Nat.{_+_, _%_, _≤_, _<_};
 ghost use lib.ListN.{length, set};
 ghost use lib.Seq.{sets};
 ghost use Rattle.policy.specs.Limits.{saveSize};
@@ -25,7 +26,7 @@ ghost use Rattle.machine.specs.Faults.{faults};
 ghost use Rattle.machine.specs.Decode.{lastOpcode, fetched};
 ghost use Rattle.machine.specs.Local.{takesInterrupt, interrupted, isReady, isAble};
 ghost use Rattle.savearea.specs.Next.{Hands};
-ghost use Rattle.parts.specs.Parts.{savedAt, withSaved, loadedFrom, storedTo};
+ghost use Rattle.parts.specs.Parts.{savedAt, withSaved, isBeside, loadedFrom, storedTo};
 
 pub fn fault(memory: &mut [u8], from: usize, f: Fault)
     requires { ⌜ from + saveSize ≤ length (now memory) ⌝ }
@@ -152,8 +153,24 @@ pub fn load_from(
     savearea::put_result(&mut memory[from..to], a, x, pc) as u32
 }
 
-// That byte takes register a. The save bytes are put first, as the definition has it; nothing is read between. The counter
-// is read back, since nothing is known here of where the byte goes.
+// What a store of so many bytes from a place on hands to the next tick: the counter that it put, where none of them is a
+// save byte, for lines and state are then as they were; else the counter that is read back, and the next tick asks.
+fn after_store(memory: &[u8], from: usize, at: usize, width: usize, next: u16) -> u32
+    requires { ⌜ (from + saveSize ≤ length (now memory)) × (at + width ≤ length (now memory)) ⌝ }
+    requires { ⌜ (isBeside from at width ≡ true → next ≡ counter (savedAt (now memory) from)) ⌝ }
+    ensures { λ r.
+        ⌜
+        (r % 65536 ≡ counter (savedAt (now (memory .entry)) from)) × (r < 65536 → isBeside from at width ≡ true)
+        ⌝ }
+{
+    let to = from + SAVE_SIZE;
+    if (at + width <= from) | (to <= at) {
+        return next as u32;
+    }
+    asking(get_counter(memory, from))
+}
+
+// That byte takes register a. The save bytes are put first, as the definition has it; nothing is read between.
 pub fn store_to(
     memory: &mut [u8],
     from: usize,
@@ -162,25 +179,25 @@ pub fn store_to(
     a: u32,
     b: u32,
     pc: u16,
-) -> u16
+) -> u32
     requires { ⌜ (from + saveSize ≤ length (now memory)) × (start + size ≤ length (now memory)) ⌝ }
     requires { ⌜ (pc ≡ counter (savedAt (now memory) from)) × (a < 8) × (b < 8) ⌝ }
     ensures { λ r.
         ⌜
         (now (memory .exit) ≡ storedTo 1 (now (memory .entry)) from start size a b)
-        × (r ≡ counter (savedAt (now (memory .exit)) from))
+        × Hands r (savedAt (now (memory .entry)) from) (savedAt (now (memory .exit)) from)
         ⌝ }
 {
     let at = get_register(memory, from, b) as usize;
     let x = low(get_register(memory, from, a));
     if at < size {
         let to = from + SAVE_SIZE;
-        savearea::advance(&mut memory[from..to], pc);
+        let next = savearea::advance(&mut memory[from..to], pc);
         store_at(memory, start, size, at, x);
-        get_counter(memory, from)
+        after_store(memory, from, start + at, 1, next)
     } else {
         fault(memory, from, Fault::OffsetOver);
-        pc
+        asking(pc)
     }
 }
 
@@ -225,24 +242,24 @@ pub fn store_word_to(
     a: u32,
     b: u32,
     pc: u16,
-) -> u16
+) -> u32
     requires { ⌜ (from + saveSize ≤ length (now memory)) × (start + size ≤ length (now memory)) ⌝ }
     requires { ⌜ (pc ≡ counter (savedAt (now memory) from)) × (a < 8) × (b < 8) ⌝ }
     ensures { λ r.
         ⌜
         (now (memory .exit) ≡ storedTo 4 (now (memory .entry)) from start size a b)
-        × (r ≡ counter (savedAt (now (memory .exit)) from))
+        × Hands r (savedAt (now (memory .entry)) from) (savedAt (now (memory .exit)) from)
         ⌝ }
 {
     let at = get_register(memory, from, b);
     let x = get_register(memory, from, a);
     if (at as usize) + 4 <= size {
         let to = from + SAVE_SIZE;
-        savearea::advance(&mut memory[from..to], pc);
+        let next = savearea::advance(&mut memory[from..to], pc);
         store_word_at(memory, start, size, at, x);
-        get_counter(memory, from)
+        after_store(memory, from, start + at as usize, 4, next)
     } else {
         fault(memory, from, Fault::OffsetOver);
-        pc
+        asking(pc)
     }
 }

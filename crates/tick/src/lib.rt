@@ -30,8 +30,7 @@ ghost use Rattle.parts.specs.Parts.{savedAt};
 ghost use Rattle.tick.specs.Seat.{seatOf, Inside};
 ghost use Rattle.tick.specs.Done.{obeyed, ticked};
 
-// A load and a store are lent a segment; every other instruction the save bytes alone. Where a store goes is not known
-// here, and so not whether it leaves lines and state.
+// A load and a store are lent a segment; every other instruction the save bytes alone.
 fn obey<'a>(
     memory: &mut [u8],
     base: &'a [u16],
@@ -61,14 +60,12 @@ fn obey<'a>(
     };
     match i {
         Instr::Load(a, b, c) => load(memory, base, size, reads, segments, from, a, b, c, pc),
-        Instr::Store(a, b, c) => {
-            asking(store(memory, base, size, writes, segments, from, a, b, c, pc))
-        }
+        Instr::Store(a, b, c) => store(memory, base, size, writes, segments, from, a, b, c, pc),
         Instr::LoadWord(a, b, c) => {
             load_word(memory, base, size, reads, segments, from, a, b, c, pc)
         }
         Instr::StoreWord(a, b, c) => {
-            asking(store_word(memory, base, size, writes, segments, from, a, b, c, pc))
+            store_word(memory, base, size, writes, segments, from, a, b, c, pc)
         }
         _ => {
             let to = from + SAVE_SIZE;

@@ -5,11 +5,13 @@ use crate::reach::may;
 use machine::Fault;
 use parts::fault;
 use parts::store_to;
+use savearea::asking;
 ghost use mathlib.Core.Path.{_≡_};
 ghost use Prim.Native.Nat.{ℕ, _+_, _≤_, _<_};
 ghost use lib.ListN.{length};
 ghost use Rattle.policy.specs.Limits.{saveSize};
 ghost use Rattle.machine.specs.Save.{counter};
+ghost use Rattle.savearea.specs.Next.{Hands};
 ghost use Rattle.parts.specs.Parts.{savedAt};
 ghost use Rattle.tick.specs.Seat.{seatOf, Inside};
 ghost use Rattle.tick.specs.Done.{stored};
@@ -25,7 +27,7 @@ pub(crate) fn store<'a>(
     b: u32,
     c: u32,
     pc: u16,
-) -> u16
+) -> u32
     requires { ⌜ from + saveSize ≤ length (now memory) ⌝ }
     requires { ⌜ Inside (now base) (now size) segments (length (now memory)) ⌝ }
     requires { ⌜ (pc ≡ counter (savedAt (now memory) from)) × (a < 8) × (b < 8) ⌝ }
@@ -34,13 +36,13 @@ pub(crate) fn store<'a>(
         ((reads : ℕ) → now (memory .exit)
         ≡ stored (seatOf (now (base .entry)) (now (size .entry)) reads writes segments)
         1 from (now (memory .entry)) a b c)
-        × (r ≡ counter (savedAt (now (memory .exit)) from))
+        × Hands r (savedAt (now (memory .entry)) from) (savedAt (now (memory .exit)) from)
         ⌝ }
 {
     if may(writes, segments, c) {
         store_to(memory, from, entry(base, c), entry(size, c), a, b, pc)
     } else {
         fault(memory, from, Fault::NoRight);
-        pc
+        asking(pc)
     }
 }

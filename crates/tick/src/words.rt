@@ -59,7 +59,7 @@ pub(crate) fn store_word<'a>(
     b: u32,
     c: u32,
     pc: u16,
-) -> u16
+) -> u32
     requires { ⌜ from + saveSize ≤ length (now memory) ⌝ }
     requires { ⌜ Inside (now base) (now size) segments (length (now memory)) ⌝ }
     requires { ⌜ (pc ≡ counter (savedAt (now memory) from)) × (a < 8) × (b < 8) ⌝ }
@@ -68,13 +68,13 @@ pub(crate) fn store_word<'a>(
         ((reads : ℕ) → now (memory .exit)
         ≡ stored (seatOf (now (base .entry)) (now (size .entry)) reads writes segments)
         4 from (now (memory .entry)) a b c)
-        × (r ≡ counter (savedAt (now (memory .exit)) from))
+        × Hands r (savedAt (now (memory .entry)) from) (savedAt (now (memory .exit)) from)
         ⌝ }
 {
     if may(writes, segments, c) {
         store_word_to(memory, from, entry(base, c), entry(size, c), a, b, pc)
     } else {
         fault(memory, from, Fault::NoRight);
-        pc
+        asking(pc)
     }
 }

@@ -1,6 +1,7 @@
 pub mod Zeros
+pub mod Tables
+pub mod Held
 pub mod Shape
-pub mod Gathered
-pub mod Lines
+pub mod Rights
+pub mod Flows
 pub mod Ends
-pub mod Entries

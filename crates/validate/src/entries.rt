@@ -1,16 +1,14 @@
-// Rules 4 and 5 for the segments, partitions and slots of a record.
+// Rules 4 and 5 for the segments and partitions of a record.
 use bytes::half_at;
 use linerules::partition_passes;
 use linerules::segment_passes;
-use policy::MOST_TICKS;
-ghost use Prim.Native.Nat.{_+_, _≤_};
+ghost use Prim.Native.Nat.{_+_};
 ghost use mathlib.Core.Path.{_≡_};
 ghost use mathlib.Core.List.{[]};
-ghost use lib.ListN.{length};
 ghost use Rattle.policy.specs.Below.{eachBelow};
 ghost use Rattle.policy.specs.Limits.{single};
-ghost use Rattle.policy.specs.Sound.{goodSegment, goodPartition, goodSlot};
-ghost use Rattle.linerules.specs.Parts.{EndedBy, placed, scheduled};
+ghost use Rattle.policy.specs.Sound.{goodSegment, goodPartition};
+ghost use Rattle.linerules.specs.Parts.{EndedBy, placed};
 
 // Where the segments up to i have ended.
 fn end_after<'a>(base: &'a [u16], size: &'a [u16], i: u8, end: u32) -> u32
@@ -58,21 +56,4 @@ pub(crate) fn partitions_good<'a>(
         i += 1;
     }
     true
-}
-
-// Gathered by or, with no early exit and no bounds check: the compiler then takes many slots at once.
-pub(crate) fn slots_good<'a>(owner: &'a [u8], ticks: &'a [u16], partitions: u8, slots: u8) -> bool
-    requires { ⌜ (slots ≤ 32) × (slots ≤ length (now owner)) × (slots ≤ length (now ticks)) ⌝ }
-    ensures { λ r.
-        ⌜ r ≡ eachBelow slots (goodSlot single (scheduled partitions (now (owner .entry)) (now (ticks .entry)))) ⌝ }
-{
-    let mut outside = false;
-    let mut i = 0;
-    while i < slots {
-        let given = ticks[i as usize] as u32;
-        let nobody = partitions <= owner[i as usize];
-        outside = outside | (nobody | ((given < 1) | (MOST_TICKS < given)));
-        i += 1;
-    }
-    !outside
 }

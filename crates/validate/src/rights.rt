@@ -1,80 +1,83 @@
-// Rules 4 and 5 for the rights and the flow lines of a record, all masks at once. The masks past the counts must be 0.
+// Rules 4 and 5 for the rights and the flow lines of a record, all masks at once.
 ghost use Prim.Native.Nat.{_≤_};
 ghost use mathlib.Core.Path.{_≡_};
-ghost use mathlib.Core.Bool.{not};
+ghost use mathlib.Core.Bool.{cond};
 ghost use mathlib.Core.List.{[]};
+ghost use lib.Bits.{bitAnd, bitOr};
 ghost use lib.Dec.{eqb};
-ghost use lib.ListN.{getD, length};
-ghost use Rattle.bits.specs.Masks.{AllUnder, has, maskOf};
-ghost use Rattle.policy.specs.Below.{eachBelow, someBelow};
+ghost use lib.ListN.{length};
+ghost use Rattle.bits.specs.Masks.{maskOf};
+ghost use Rattle.policy.specs.Below.{eachBelow};
 ghost use Rattle.policy.specs.Limits.{single};
 ghost use Rattle.policy.specs.Sound.{goodFlow, goodRight};
 ghost use Rattle.wholerules.specs.Parts.{partsOf};
-use bits::bit_of;
 use bits::bits_below;
-use bits::bits_fit;
-use bits::has_bit;
-use bytes::byte_at;
 
-// The save segments.
-fn save_bits(save: &[u8], partitions: u8) -> u64
-    ensures { λ r. ⌜ r ≡ maskOf 64 (λ s. someBelow partitions (λ q. eqb s (getD (now (save .entry)) q 0))) ⌝ }
+// The mask of s alone; one of 32 or more is in no mask.
+fn low_bit_of(s: u8) -> u32
+    ensures { λ r. ⌜ r ≡ maskOf 32 (λ u. eqb u s) ⌝ }
 {
-    let mut saves: u64 = 0;
-    let mut q = 0;
-    while q < partitions {
-        saves = saves | bit_of(byte_at(save, q as usize));
-        q += 1;
-    }
-    saves
+    if s < 32 { 1u32 << s as u32 } else { 0 }
 }
 
 // A right is one on a segment that is there and no save segment.
 pub(crate) fn rights_good<'a>(
     save: &'a [u8],
-    reads: &'a [u64],
-    writes: &'a [u64],
+    reads: &'a [u32],
+    writes: &'a [u32],
     segments: u8,
     partitions: u8,
 ) -> bool
     requires { ⌜ (segments ≤ 32) × (partitions ≤ 8) ⌝ }
-    requires { ⌜ (length (now reads) ≡ 8) × (length (now writes) ≡ 8) ⌝ }
-    requires { ⌜ AllUnder 32 (now reads) × AllUnder 32 (now writes) ⌝ }
+    requires { ⌜ (length (now save) ≡ 8) × (length (now reads) ≡ 8) × (length (now writes) ≡ 8) ⌝ }
     ensures { λ r.
         ⌜
-        r ≡ eachBelow 8
+        r ≡ eachBelow partitions
         (λ p. eachBelow 32
         (goodRight single
         (partsOf segments partitions 0 [] (now (save .entry)) (now (reads .entry)) (now (writes .entry)) []) p))
         ⌝ }
 {
-    let there = bits_below(segments);
-    let saves = save_bits(save, partitions);
-    bits_fit(reads, writes, partitions, there, saves)
+    let there = bits_below(segments) as u32;
+    let mut saves: u32 = 0;
+    let mut held: u32 = 0;
+    let mut p = 0;
+    while p < partitions {
+        saves = saves | low_bit_of(save[p as usize]);
+        held = held | reads[p as usize] | writes[p as usize];
+        p += 1;
+    }
+    ((held & there) == held) & ((held & saves) == 0)
 }
 
-// Whether no segment is its own source: the bit of each goes down to bit 0, where all are gathered.
-fn none_own(sources: &[u64], segments: u8) -> bool
-    requires { ⌜ (segments ≤ 32) × (segments ≤ length (now sources)) ⌝ }
-    ensures { λ r. ⌜ r ≡ eachBelow segments (λ t. not (has (getD (now (sources .entry)) t 0) t)) ⌝ }
+// The sources that the target of one bit may not have: what is not there and itself, or all if it is not there. A value and
+// no branch, so that the compiler looks at many targets at once.
+fn barred(there: u32, beyond: u32, bit: u32) -> u32
+    ensures { λ r. ⌜ r ≡ cond (eqb (bitAnd there bit) 0) 4294967295 (bitOr beyond bit) ⌝ }
 {
-    let mut own: u64 = 0;
-    let mut t = 0;
-    while t < segments {
-        own = own | (sources[t as usize] >> t as u32);
-        t += 1;
+    if there & bit == 0 {
+        4294967295
+    } else {
+        beyond | bit
     }
-    !has_bit(own, 0)
 }
 
 // A flow is one between two segments that are there.
-pub(crate) fn flows_good(sources: &[u64], segments: u8) -> bool
-    requires { ⌜ (segments ≤ 32) × (length (now sources) ≡ 32) × AllUnder 32 (now sources) ⌝ }
+pub(crate) fn flows_good(sources: &[u32], segments: u8) -> bool
+    requires { ⌜ (segments ≤ 32) × (length (now sources) ≡ 32) ⌝ }
     ensures { λ r.
         ⌜
         r ≡ eachBelow 32
         (λ s. eachBelow 32 (goodFlow single (partsOf segments 0 0 [] [] [] [] (now (sources .entry))) s))
         ⌝ }
 {
-    bits_fit(sources, sources, segments, bits_below(segments), 0) & none_own(sources, segments)
+    let there = bits_below(segments) as u32;
+    let beyond = !there;
+    let mut stray: u32 = 0;
+    let mut t: u32 = 0;
+    while t < 32 {
+        stray = stray | (sources[t as usize] & barred(there, beyond, 1u32 << t));
+        t += 1;
+    }
+    stray == 0
 }

@@ -1,18 +1,18 @@
 // The test of a whole record.
 ghost use Prim.Native.Nat.{_≤_};
 ghost use mathlib.Core.Path.{_≡_};
-ghost use mathlib.Core.List.{[]};
+ghost use lib.ListN.{length};
 ghost use Rattle.policy.specs.Limits.{single};
+ghost use Rattle.policy.specs.Read.{wholeRefusal};
 ghost use Rattle.policy.specs.Record.{tablesOf};
-ghost use Rattle.policy.specs.Tables.{viewOf};
-ghost use Rattle.policy.specs.Sound.{linesHold, soundOf, unusedZero};
-ghost use Rattle.validate.specs.Parts.{MasksFit, Paired, entriesSound, recordOf};
-use crate::arrays::both_unused;
-use crate::arrays::bytes_unused;
-use crate::arrays::halves_unused;
+ghost use Rattle.policy.specs.Refusals.{isAccepted};
+ghost use Rattle.policy.specs.Sound.{soundOf};
+ghost use Rattle.wholerules.specs.Parts.{partsOf};
+ghost use Rattle.validate.specs.Parts.{Long, MasksLong, entriesHold, entriesSound, recordOf};
+use crate::arrays::partitions_unused;
+use crate::arrays::tables_hold;
 use crate::entries::partitions_good;
 use crate::entries::segments_good;
-use crate::entries::slots_good;
 use crate::rights::flows_good;
 use crate::rights::rights_good;
 use bits::widen;
@@ -31,8 +31,9 @@ struct Counts {
     unused: u8,
 }
 
-// Whether the entries past each count are 0, and the byte after the counts.
-fn unused_zero<'a>(
+// Whether each entry stands where a line that rules 4 and 5 let pass would put it, and those past the counts are 0, as is
+// the byte after the counts.
+fn entries_hold<'a>(
     counts: Counts,
     base: &'a [u16],
     size: &'a [u16],
@@ -40,53 +41,70 @@ fn unused_zero<'a>(
     save: &'a [u8],
     owner: &'a [u8],
     ticks: &'a [u16],
-) -> bool
-    requires { ⌜ Paired (now base) (now size) (now code) (now save) (now owner) (now ticks) ⌝ }
-    ensures { λ r.
-        ⌜
-        r ≡ unusedZero
-        (recordOf counts (now (base .entry)) (now (size .entry)) (now (code .entry))
-        (now (save .entry)) (now (owner .entry)) (now (ticks .entry)) [] [] [])
-        ⌝ }
-{
-    halves_unused(base, size, counts.segments as usize)
-        & bytes_unused(code, save, counts.partitions as usize)
-        & both_unused(owner, ticks, counts.slots as usize)
-        & (counts.unused == 0)
-}
-
-// Whether each entry stands where a line that rules 4 and 5 let pass would put it.
-fn lines_hold<'a>(
-    counts: Counts,
-    base: &'a [u16],
-    size: &'a [u16],
-    code: &'a [u8],
-    save: &'a [u8],
-    owner: &'a [u8],
-    ticks: &'a [u16],
-    reads: &'a [u64],
-    writes: &'a [u64],
-    sources: &'a [u64],
+    reads: &'a [u32],
+    writes: &'a [u32],
+    sources: &'a [u32],
 ) -> bool
     requires { ⌜ (counts .segments ≤ 32) × (counts .partitions ≤ 8) × (counts .slots ≤ 32) ⌝ }
-    requires { ⌜ Paired (now base) (now size) (now code) (now save) (now owner) (now ticks) ⌝ }
-    requires { ⌜ MasksFit (now reads) (now writes) (now sources) ⌝ }
+    requires { ⌜ Long (now base) (now size) (now code) (now save) (now owner) (now ticks) ⌝ }
+    requires { ⌜ MasksLong (now reads) (now writes) (now sources) ⌝ }
     ensures { λ r.
         ⌜
-        r ≡ linesHold single
-        (viewOf
+        r ≡ entriesHold
         (recordOf counts (now (base .entry)) (now (size .entry)) (now (code .entry)) (now (save .entry))
-        (now (owner .entry)) (now (ticks .entry)) (now (reads .entry)) (now (writes .entry)) (now (sources .entry))))
+        (now (owner .entry)) (now (ticks .entry)) (now (reads .entry)) (now (writes .entry)) (now (sources .entry)))
         ⌝ }
 {
-    segments_good(base, size, counts.segments)
-        & partitions_good(size, code, save, counts.segments, counts.partitions)
-        & rights_good(save, reads, writes, counts.segments, counts.partitions)
-        & flows_good(sources, counts.segments)
-        & slots_good(owner, ticks, counts.partitions, counts.slots)
+    let segments = counts.segments;
+    let partitions = counts.partitions;
+    tables_hold(base, size, owner, ticks, segments, partitions, counts.slots)
+        & partitions_unused(code, save, reads, writes, partitions)
+        & (counts.unused == 0)
+        & segments_good(base, size, segments)
+        & partitions_good(size, code, save, segments, partitions)
+        & rights_good(save, reads, writes, segments, partitions)
+        & flows_good(sources, segments)
 }
 
-// The test on lent arrays, which have the lengths and the masks the widths of the record's types.
+// Whether the whole passes rules 6, 7, 8 and 16, which are asked of masks of 64 bits.
+fn whole_passes<'a>(
+    counts: Counts,
+    code: &'a [u8],
+    save: &'a [u8],
+    reads: &'a [u32],
+    writes: &'a [u32],
+    sources: &'a [u32],
+) -> bool
+    requires { ⌜ (counts .segments ≤ 32) × (counts .partitions ≤ 8) ⌝ }
+    requires { ⌜ (length (now code) ≡ 8) × (length (now save) ≡ 8) ⌝ }
+    requires { ⌜ MasksLong (now reads) (now writes) (now sources) ⌝ }
+    ensures { λ r.
+        ⌜
+        r ≡ isAccepted
+        (wholeRefusal
+        (partsOf (counts .segments) (counts .partitions) (counts .slots) (now (code .entry)) (now (save .entry))
+        (now (reads .entry)) (now (writes .entry)) (now (sources .entry))))
+        ⌝ }
+{
+    let mut wide_reads: [u64; 8] = [0; 8];
+    widen(reads, &mut wide_reads);
+    let mut wide_writes: [u64; 8] = [0; 8];
+    widen(writes, &mut wide_writes);
+    let mut wide_sources: [u64; 32] = [0; 32];
+    widen(sources, &mut wide_sources);
+    is_accepted(lent_refusal(
+        counts.segments,
+        counts.partitions,
+        counts.slots,
+        code,
+        save,
+        &wide_reads,
+        &wide_writes,
+        &wide_sources,
+    ))
+}
+
+// The test on lent arrays, which have the lengths of the record's types.
 fn lent_passes<'a>(
     counts: Counts,
     base: &'a [u16],
@@ -95,12 +113,12 @@ fn lent_passes<'a>(
     save: &'a [u8],
     owner: &'a [u8],
     ticks: &'a [u16],
-    reads: &'a [u64],
-    writes: &'a [u64],
-    sources: &'a [u64],
+    reads: &'a [u32],
+    writes: &'a [u32],
+    sources: &'a [u32],
 ) -> bool
-    requires { ⌜ Paired (now base) (now size) (now code) (now save) (now owner) (now ticks) ⌝ }
-    requires { ⌜ MasksFit (now reads) (now writes) (now sources) ⌝ }
+    requires { ⌜ Long (now base) (now size) (now code) (now save) (now owner) (now ticks) ⌝ }
+    requires { ⌜ MasksLong (now reads) (now writes) (now sources) ⌝ }
     ensures { λ r.
         ⌜
         r ≡ entriesSound
@@ -108,16 +126,14 @@ fn lent_passes<'a>(
         (now (owner .entry)) (now (ticks .entry)) (now (reads .entry)) (now (writes .entry)) (now (sources .entry)))
         ⌝ }
 {
-    let segments = counts.segments;
-    let partitions = counts.partitions;
-    let slots = counts.slots;
-    let fit = (segments <= SEGMENTS) & (partitions <= PARTITIONS) & (slots <= SLOTS);
+    let fit = (counts.segments <= SEGMENTS)
+        & (counts.partitions <= PARTITIONS)
+        & (counts.slots <= SLOTS);
     // The tests of the entries rest on counts within the limits.
     if !fit {
         return false;
     }
-    let unused = unused_zero(counts, base, size, code, save, owner, ticks);
-    let lines = lines_hold(
+    entries_hold(
         counts,
         base,
         size,
@@ -128,18 +144,8 @@ fn lent_passes<'a>(
         reads,
         writes,
         sources,
-    );
-    let whole = lent_refusal(
-        segments,
-        partitions,
-        slots,
-        code,
-        save,
-        reads,
-        writes,
-        sources,
-    );
-    unused & lines & is_accepted(whole)
+    )
+        & whole_passes(counts, code, save, reads, writes, sources)
 }
 
 // Whether some accepted text gives the record.
@@ -152,12 +158,6 @@ pub fn passes_test(policy: Policy) -> bool
         slots: policy.slots,
         unused: policy.unused,
     };
-    let mut reads: [u64; 8] = [0; 8];
-    widen(&policy.reads, &mut reads);
-    let mut writes: [u64; 8] = [0; 8];
-    widen(&policy.writes, &mut writes);
-    let mut sources: [u64; 32] = [0; 32];
-    widen(&policy.sources, &mut sources);
     lent_passes(
         counts,
         &policy.base,
@@ -166,8 +166,8 @@ pub fn passes_test(policy: Policy) -> bool
         &policy.save,
         &policy.owner,
         &policy.ticks,
-        &reads,
-        &writes,
-        &sources,
+        &policy.reads,
+        &policy.writes,
+        &policy.sources,
     )
 }

@@ -33,9 +33,3 @@ unfoldable pub askedInto : List ℕ → List ℕ → ℕ → ℕ → ℕ
 askedInto reached written t zero = 0
 askedInto reached written t (suc p) =
     bitOr (askedInto reached written t p) (cond (has (getD written p 0) t) (getD reached p 0) 0)
-
--- What is reached by those of the first partitions whose save segment is t.
-unfoldable pub keptFor : List ℕ → List ℕ → ℕ → ℕ → ℕ
-keptFor save reached t zero = 0
-keptFor save reached t (suc p) =
-    bitOr (keptFor save reached t p) (cond (eqb t (getD save p 0)) (getD reached p 0) 0)

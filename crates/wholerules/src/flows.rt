@@ -40,7 +40,6 @@ pub(crate) fn missing_after<'a>(
 {
     let mut reached: [u64; 12] = [0; 12];
     let mut written: [u64; 12] = [0; 12];
-    let mut kept: [u64; 64] = [0; 64];
     let all = reach_all(
         save,
         reads,
@@ -50,13 +49,12 @@ pub(crate) fn missing_after<'a>(
         partitions,
         &mut reached,
         &mut written,
-        &mut kept,
     );
     let mut found = false;
     let mut t = 0;
     while t < targets {
         let allowed = sources[t as usize] | worth(t as u32);
-        found = found | target_lacks(&reached, &written, partitions, t, allowed, all, &kept);
+        found = found | target_lacks(&reached, &written, partitions, t, allowed, all);
         t += 1;
     }
     Flows {

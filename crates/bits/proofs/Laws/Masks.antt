@@ -118,10 +118,6 @@ half-has a s = let q : suc s ≡ 1 + s = omega arith in rw q (ap (λ (n : ℕ). 
 pub zero-has : (a : ℕ) → eqb (a % 2) 1 ≡ has a 0
 zero-has a = ap (λ (n : ℕ). eqb (n % 2) 1) (sym (div-one a))
 
--- A mask moved down by s has at 0 the bit that was at s.
-pub has-down : (a s : ℕ) → has (a / 2 ^ s) 0 ≡ has a s
-has-down a s = sym (zero-has (a / 2 ^ s))
-
 digit-tells : (x y : ℕ) → x < 2 → y < 2 → eqb x 1 ≡ eqb y 1 → x ≡ y
 digit-tells x y hx hy =
     digit-cases (λ x. eqb x 1 ≡ eqb y 1 → x ≡ y)

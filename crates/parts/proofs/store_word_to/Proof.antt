@@ -1,10 +1,13 @@
--- Both registers are read first, the save bytes are put and then the four bytes, as in `storedTo`; the counter is read after that.
+-- Both registers are read first, the save bytes are put and then the four bytes, as in `storedTo`. Bytes beside the save bytes leave these as they
+-- were put, and so lines, handler and state; else, and after a fault, the next tick asks.
 use mathlib.Core.Path.{sym, _∙_}
 use native.Mathlib.Nat.{add-sub-cancel-left}
 use borrow.Author.Tests.{le-leb, lt-leb}
+use Rattle.machine.specs.Bytes.{digits}
 use Rattle.machine.specs.Tick.{inSegment}
+use Rattle.machine.proofs.Laws.Numbers.{length-digits}
 use Rattle.parts.specs.Parts.{storedTo}
-use Rattle.parts.proofs.Laws.Counters.{counter-fault}
+use Rattle.parts.proofs.Laws.Counters.{counter-beside, plain-beside, hands-fault}
 use borrow.Author.Needs.{needs}
 use Rattle.parts.proofs.store_word_to.Statement.{statement}
 use Rattle.parts.proofs.store_word_to.Tie as tie
@@ -41,11 +44,29 @@ advance-requires c κs =
 store-word-at-requires : tie.Need-store-word-at-requires
 store-word-at-requires c κs = search needs
 
-get-counter-requires : tie.Need-get-counter-requires
-get-counter-requires c κs = search needs
+cast-after-store : tie.Need-cast-after-store
+cast-after-store c = search needs
+
+add-after-store : tie.Need-add-after-store
+add-after-store c = search needs
+
+after-store-requires : tie.Need-after-store-requires
+after-store-requires c κs =
+    let s = c .before .before .before in
+    let a = s .before .before .before .before in
+    let start = a .before .before .before .before .before .before .before .before in (
+      (search needs, search needs),
+      λ beside.
+          a .advance .ensures .1
+          ∙ rw (s .store-word-at .ensures, a .advance .ensures .0, add-sub-cancel-left)
+          (sym (counter-beside _ _ (start .pre .0 .0) _ (digits 4 _) (rw length-digits beside))),
+    )
 
 fault-requires : tie.Need-fault-requires
 fault-requires c κs = search needs
+
+asking-requires : tie.Need-asking-requires
+asking-requires c κs = search needs
 
 same-length : tie.Need-same-length
 same-length c = search needs
@@ -55,7 +76,9 @@ unfolding storedTo inSegment
 returns c =
     let s = c .before .before .before .before in
     let a = s .before .before .before .before in
-    let i = a .before .before in (
+    let i = a .before .before in
+    let start = i .before .before .before .before .before .before in
+    let e = c .after-store .ensures in (
       rw (
         s .store-word-at .ensures,
         a .advance .ensures .0,
@@ -64,7 +87,11 @@ returns c =
         ← i .before .before .before .get-register .ensures,
         le-leb _ _ (i .if1 .taken),
       ),
-      c .get-counter .ensures,
+      (
+        e .0,
+        λ small. rw (s .store-word-at .ensures, a .advance .ensures .0, add-sub-cancel-left)
+            (plain-beside _ _ (start .pre .0 .0) _ (digits 4 _) (rw length-digits (e .1 small))),
+      ),
     )
 
 same-length-2 : tie.Need-same-length-2
@@ -73,12 +100,12 @@ same-length-2 c = search needs
 returns-2 : tie.Need-returns-2
 unfolding storedTo inSegment
 returns-2 c =
-    let i = c .before .before .before .before in
-    let e = c .before .before .fault .ensures in
+    let i = c .before .before .before .before .before in
+    let e = c .before .before .before .fault .ensures in
     let g = i .before .before .before in
     let start = g .before .before .before in (
       rw (e, ← g .get-register .ensures, lt-leb _ _ (i .if1 .left)),
-      rw e (start .pre .1 .0 ∙ sym (counter-fault _ _ (start .pre .0 .0) _)),
+      rw e (hands-fault _ _ (start .pre .0 .0) _ _ _ (search needs) (start .pre .1 .0) (c .asking .ensures)),
     )
 
 pub store-word-to-spec : {M : Type 1} → statement M
@@ -95,8 +122,11 @@ store-word-to-spec =
     part-advance-end
     advance-requires
     store-word-at-requires
-    get-counter-requires
+    cast-after-store
+    add-after-store
+    after-store-requires
     fault-requires
+    asking-requires
     same-length
     returns
     same-length-2

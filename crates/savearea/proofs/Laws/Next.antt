@@ -40,7 +40,7 @@ beyond-word s at n below =
 plain-counter : (s : List ℕ) (n : ℕ) → isPlain (withCounter s n) ≡ isPlain s
 plain-counter s n = plain-beyond s _ (beyond-half s n)
 
-plain-advanced : (s : List ℕ) → isPlain (advanced s) ≡ isPlain s
+pub plain-advanced : (s : List ℕ) → isPlain (advanced s) ≡ isPlain s
 unfolding advanced
 plain-advanced s = plain-counter s _
 

@@ -1,9 +1,7 @@
 -- What decodes to none faults; a load and a store are the definition's own cases; every other instruction changes the save bytes alone, and
 -- these are lent.
-use mathlib.Core.Path.{sym, _∙_}
 use native.Mathlib.Nat.{add-sub-cancel-left}
 use Rattle.machine.specs.Tick.{executes, obeys}
-use Rattle.savearea.proofs.Laws.Next.{hands-asking}
 use Rattle.parts.proofs.Laws.Counters.{hands-back, hands-fault}
 use Rattle.tick.proofs.Laws.Alone.{acts-alone}
 use borrow.Author.Needs.{needs}
@@ -56,9 +54,6 @@ store-requires c κs =
     let named = rw (kind .d .given .1, arm .i2 .given .1) at (p .1 .1 .1) in
     (p .0, (p .1 .0, (p .1 .1 .0, named .0, named .1)))
 
-asking-requires-2 : tie.Need-asking-requires-2
-asking-requires-2 c κs = search needs
-
 enum-known-i-3 : tie.Need-enum-known-i-3
 enum-known-i-3 c = search needs
 
@@ -80,9 +75,6 @@ store-word-requires c κs =
     let p = kind .before .before .before .before .before .pre in
     let named = rw (kind .d .given .1, arm .i4 .given .1) at (p .1 .1 .1) in
     (p .0, (p .1 .0, (p .1 .1 .0, named .0, named .1)))
-
-asking-requires-3 : tie.Need-asking-requires-3
-asking-requires-3 c κs = search needs
 
 add-to : tie.Need-add-to
 add-to c = search needs
@@ -119,10 +111,10 @@ same-length-3 c = search needs
 returns-3 : tie.Need-returns-3
 unfolding obeys executes
 returns-3 c =
-    let call = c .before .before .before in
+    let call = c .before .before in
     let arm = call .before .before .before in
     let e = call .store .ensures in
-    (rw (arm .before .before .before .d .given .1, arm .i2 .given .1) (e .0 _), hands-asking _ _ _ _ (search needs) (e .1) (c .asking2 .ensures))
+    (rw (arm .before .before .before .d .given .1, arm .i2 .given .1) (e .0 _), e .1)
 
 same-length-4 : tie.Need-same-length-4
 same-length-4 c = search needs
@@ -141,10 +133,10 @@ same-length-5 c = search needs
 returns-5 : tie.Need-returns-5
 unfolding obeys executes
 returns-5 c =
-    let call = c .before .before .before in
+    let call = c .before .before in
     let arm = call .before .before .before in
     let e = call .store-word .ensures in
-    (rw (arm .before .before .before .d .given .1, arm .i4 .given .1) (e .0 _), hands-asking _ _ _ _ (search needs) (e .1) (c .asking3 .ensures))
+    (rw (arm .before .before .before .d .given .1, arm .i4 .given .1) (e .0 _), e .1)
 
 same-length-6 : tie.Need-same-length-6
 same-length-6 c = search needs
@@ -175,12 +167,10 @@ obey-spec =
     load-requires
     enum-known-i-2
     store-requires
-    asking-requires-2
     enum-known-i-3
     load-word-requires
     enum-known-i-4
     store-word-requires
-    asking-requires-3
     add-to
     sub-act
     part-act-start

@@ -1,20 +1,21 @@
--- The ends of two lists are all 0 by their first numbers and the rest, and two numbers are 0 where their bits together are.
-use Prim.Native.Nat.{ℕ, _+_, _<_, _≤_}
+-- The end of a list is all 0 where each number from there on is, and numbers are 0 where their bits together are.
+use Prim.Native.Nat.{ℕ, zero, suc, _+_, _<_, _≤_}
 use mathlib.Core.Path.{_≡_, refl}
-use mathlib.Core.Bool.{Bool, true, false, _&&_, and-true, and-false, and-assoc}
-use mathlib.Core.List.{List}
+use mathlib.Core.Bool.{Bool, true, _&&_, and-true}
+use mathlib.Core.List.{List, [], _∷_}
 use native.Mathlib.Decide.{ℕ-discrete}
 use native.Mathlib.Numerals.{add-one}
 use native.Mathlib.Omega.{arith}
-use borrow.Author.Tests.{ne-eqb}
+use borrow.Author.Tests.{eq-eqb, eqb-true, ne-eqb}
 use lib.Bits.{bitOr, and-le-r, or-add-and, or-zero-l}
 use lib.Dec.{eqb}
 use lib.ListN.{length, getD, drop, drop-of-length-le}
 use lib.Seq.{drop-cons}
-use Rattle.policy.specs.Sound.{allZero, unusedZero}
-use Rattle.policy.specs.Tables.{Tables}
+use Rattle.policy.specs.Sound.{allZero}
+use Rattle.policy.proofs.Laws.Bools.{and-both, and-left, and-right, same-truth}
+use Rattle.policy.proofs.Laws.Tests.{parts}
 
-or-none : (x y : ℕ) → eqb (bitOr x y) 0 ≡ eqb x 0 && eqb y 0
+pub or-none : (x y : ℕ) → eqb (bitOr x y) 0 ≡ eqb x 0 && eqb y 0
 or-none x y = go (ℕ-discrete x 0)
   where
     go : Dec (x ≡ 0) → eqb (bitOr x y) 0 ≡ eqb x 0 && eqb y 0
@@ -23,42 +24,62 @@ or-none x y = go (ℕ-discrete x 0)
         rw (ne-eqb x 0 q)
         (ne-eqb (bitOr x y) 0 (λ e. q (omega (arith, or-add-and x y, and-le-r x y))))
 
-by-turn : (used x y p q : Bool) → used && (x && p && (y && q)) ≡ used && x && y && (p && q)
-by-turn false x y p q = refl
-by-turn true false y p q = refl
-by-turn true true false p q = and-false p
-by-turn true true true p q = refl
+pub zero-at : (l : List ℕ) (n : ℕ) → allZero (drop n l) ≡ true → (k : ℕ) → n ≤ k → getD l k 0 ≡ 0
+unfolding allZero
+zero-at [] n h k le = refl
+zero-at (x ∷ xs) zero h zero le = eqb-true x 0 (and-left (eqb x 0) (allZero xs) h)
+zero-at (x ∷ xs) zero h (suc k) le = zero-at xs zero (and-right (eqb x 0) (allZero xs) h) k (omega arith)
+zero-at (x ∷ xs) (suc n) h zero le = absurd (omega arith)
+zero-at (x ∷ xs) (suc n) h (suc k) le = zero-at xs n h k (omega arith)
 
-abbrev zeros : List ℕ → List ℕ → ℕ → Bool
-zeros a b i = allZero (drop i a) && allZero (drop i b)
+pub zero-of : (l : List ℕ) (n : ℕ) → ((k : ℕ) → n ≤ k → k < length l → getD l k 0 ≡ 0) → allZero (drop n l) ≡ true
+unfolding allZero
+zero-of [] zero h = refl
+zero-of [] (suc n) h = refl
+zero-of (x ∷ xs) zero h =
+    and-both (eqb x 0) (allZero xs) (eq-eqb x 0 (h 0 (omega arith) (omega arith)))
+    (zero-of xs zero (λ k le l. h (suc k) (omega arith) (omega arith)))
+zero-of (x ∷ xs) (suc n) h = zero-of xs n (λ k le l. h (suc k) (omega arith) (omega arith))
 
--- Before the loop's turn at i: all is 0 from the start on where what was read is 0 and what is left is.
-abbrev pub ZeroTo : List ℕ → List ℕ → ℕ → ℕ → ℕ → Type 0
-ZeroTo a b from i used = zeros a b from ≡ eqb used 0 && zeros a b i
+by-turn : (used w x y z p q r t : Bool) →
+    used && (w && p && (x && q) && (y && r) && (z && t)) ≡ used && w && x && y && z && (p && q && r && t)
+by-turn used w x y z p q r t = same-truth _ _ (λ h. search (parts, and-both) depth 24) (λ h. search (parts, and-both) depth 24)
 
-module _ (a b : List ℕ) (from i used : ℕ) (e : length a ≡ length b) (z : ZeroTo a b from i used) where
-  pub zero-more : i < length a → ZeroTo a b from (i + 1) (bitOr (bitOr used (getD a i 0)) (getD b i 0))
-  unfolding allZero
-  zero-more l =
-      rw (z, drop-cons a i 0 l, drop-cons b i 0 (rw e at l), or-none, or-none, add-one)
-      (by-turn (eqb used 0) (eqb (getD a i 0) 0) (eqb (getD b i 0) 0) _ _)
+module _ (a b c d : List ℕ) where
+  abbrev zeros : ℕ → Bool
+  zeros i = allZero (drop i a) && allZero (drop i b) && allZero (drop i c) && allZero (drop i d)
 
-  pub zero-done : length a ≤ i → eqb used 0 ≡ zeros a b from
-  unfolding allZero
-  zero-done l = rw (z, drop-of-length-le a {i = i} l, drop-of-length-le b {i = i} (rw e at l), and-true)
+  -- Before the loop's turn at i: all is 0 from the start on where what was read is 0 and what is left is.
+  abbrev pub ZeroTo : ℕ → ℕ → ℕ → Type 0
+  ZeroTo from i used = zeros from ≡ eqb used 0 && zeros i
 
--- The unused entries of a record, two arrays at once.
-pub unused-by-two : (t : Tables) →
-    zeros (t .segments .base) (t .segments .size) (t .segments .count)
-    && zeros (t .partitions .code) (t .partitions .save) (t .partitions .count)
-    && zeros (t .slots .owner) (t .slots .ticks) (t .slots .count)
-    && eqb (t .unused) 0
-    ≡ unusedZero t
-unfolding unusedZero
-unused-by-two t =
-    let first = zeros (t .segments .base) (t .segments .size) (t .segments .count) in
-    let code = allZero (drop (t .partitions .count) (t .partitions .code)) in
-    let save = allZero (drop (t .partitions .count) (t .partitions .save)) in
-    let owner = allZero (drop (t .slots .count) (t .slots .owner)) in
-    let ticks = allZero (drop (t .slots .count) (t .slots .ticks)) in
-    rw (and-assoc first code save, and-assoc (first && (code && save)) owner ticks)
+  module _ (n from i used : ℕ) (z : ZeroTo from i used) (la : length a ≡ n) (lb : length b ≡ n) (lc : length c ≡ n) (ld : length d ≡ n) where
+    pub zero-more : i < n →
+        ZeroTo from (i + 1) (bitOr (bitOr (bitOr (bitOr used (getD a i 0)) (getD b i 0)) (getD c i 0)) (getD d i 0))
+    unfolding allZero
+    zero-more l =
+        rw (
+          z,
+          drop-cons a i 0 (omega arith),
+          drop-cons b i 0 (omega arith),
+          drop-cons c i 0 (omega arith),
+          drop-cons d i 0 (omega arith),
+          or-none,
+          or-none,
+          or-none,
+          or-none,
+          add-one,
+        )
+        (by-turn (eqb used 0) (eqb (getD a i 0) 0) (eqb (getD b i 0) 0) (eqb (getD c i 0) 0) (eqb (getD d i 0) 0) _ _ _ _)
+
+    pub zero-done : n ≤ i → eqb used 0 ≡ zeros from
+    unfolding allZero
+    zero-done l =
+        rw (
+          z,
+          drop-of-length-le a {i = i} (omega arith),
+          drop-of-length-le b {i = i} (omega arith),
+          drop-of-length-le c {i = i} (omega arith),
+          drop-of-length-le d {i = i} (omega arith),
+          and-true,
+        )

@@ -40,7 +40,7 @@ module _ (n own there byte : ℕ) (few : n ≤ 64) (o : own ≡ maskOf 64 (λ u.
       ))
 
 module _ (list : List ℕ) where
-  has-joined : (n s : ℕ) → has (joined list n) s ≡ someBelow n (λ p. has (getD list p 0) s)
+  pub has-joined : (n s : ℕ) → has (joined list n) s ≡ someBelow n (λ p. has (getD list p 0) s)
   unfolding joined someBelow
   has-joined zero s = has-none s
   has-joined (suc p) s = has-or (joined list p) (getD list p 0) s ∙ rw (has-joined p s)
@@ -64,15 +64,15 @@ own-width : (m : ℕ) → m < 2 ^ m
 own-width zero = omega arith
 own-width (suc m) = rw pow-suc (omega (arith, own-width m))
 
+pub has-cond : (b : Bool) (m s : ℕ) → has (cond b m 0) s ≡ b && has m s
+has-cond true m s = refl
+has-cond false m s = has-none s
+
 module _ (reached written : List ℕ) (t : ℕ) where
   pub asked-more : (p : ℕ) (asked more : ℕ) → asked ≡ askedInto reached written t p →
       more ≡ cond (has (getD written p 0) t) (getD reached p 0) 0 → bitOr asked more ≡ askedInto reached written t (p + 1)
   unfolding askedInto
   asked-more p asked more a m = rw (add-one, a, m)
-
-  has-cond : (b : Bool) (m s : ℕ) → has (cond b m 0) s ≡ b && has m s
-  has-cond true m s = refl
-  has-cond false m s = has-none s
 
   pub has-asked : (n s : ℕ) →
       has (askedInto reached written t n) s ≡ someBelow n (λ p. has (getD written p 0) t && has (getD reached p 0) s)

@@ -25,7 +25,7 @@ some-and : (n : ℕ) (f : ℕ → Bool) (b : Bool) → someBelow n f && b ≡ so
 some-and n f true = and-true (someBelow n f) ∙ some-same f (λ i. f i && true) n (λ i l. sym (and-true (f i)))
 some-and n f false = and-false (someBelow n f) ∙ sym (none-of (λ i. f i && false) n (λ i l. and-false (f i)))
 
-lacks : (asked own flows : Bool) → asked && not (flows || own) ≡ asked && not own && not flows
+pub lacks : (asked own flows : Bool) → asked && not (flows || own) ≡ asked && not own && not flows
 lacks false own flows = refl
 lacks true true true = refl
 lacks true true false = refl

@@ -1,8 +1,7 @@
 -- The right decides first, and the store by numbers is the effect applied.
-use mathlib.Core.Path.{sym, _∙_}
 use denote.Ref.{now}
 use Rattle.machine.specs.Tick.{storesBytes}
-use Rattle.parts.proofs.Laws.Counters.{counter-fault}
+use Rattle.parts.proofs.Laws.Counters.{hands-fault}
 use Rattle.tick.specs.Seat.{seatOf}
 use Rattle.tick.proofs.Laws.Reach.{reach-base, reach-size, reach-inside, stored-to}
 use borrow.Author.Needs.{needs}
@@ -31,6 +30,9 @@ store-word-to-requires c κs =
 
 fault-requires : tie.Need-fault-requires
 fault-requires c κs = search needs
+
+asking-requires : tie.Need-asking-requires
+asking-requires c κs = search needs
 
 same-length : tie.Need-same-length
 same-length c = search needs
@@ -65,11 +67,11 @@ same-length-2 c = search needs
 returns-2 : tie.Need-returns-2
 unfolding storesBytes
 returns-2 c =
-    let i = c .before .before .before .before in
+    let i = c .before .before .before .before .before in
     let p = i .before .before .before .before .before .pre in
-    let e = c .before .before .fault .ensures in (
+    let e = c .before .before .before .fault .ensures in (
       λ reads. rw (e, ← i .before .may .ensures, i .if1 .left),
-      rw e (p .1 .1 .0 ∙ sym (counter-fault _ _ (p .0) _)),
+      rw e (hands-fault _ _ (p .0) _ _ _ (search needs) (p .1 .1 .0) (c .asking .ensures)),
     )
 
 pub store-word-spec : {M : Type 1} → statement M
@@ -81,6 +83,7 @@ store-word-spec =
     entry-requires-2
     store-word-to-requires
     fault-requires
+    asking-requires
     same-length
     returns
     same-length-2

@@ -1,13 +1,12 @@
--- The code makes the definition's tests in its order; the later ones rest on counts within the limits.
+-- The code makes the definition's tests, which rest on counts within the limits.
 use mathlib.Core.Path.{_≡_}
-use mathlib.Core.Bool.{true, false}
+use mathlib.Core.Bool.{true, false, and-true}
 use mathlib.Core.List.{[]}
 use native.Mathlib.Omega.{arith}
 use borrow.Author.Tests.{not-true, not-false}
-use borrow.Author.Needs.{needs}
-use Rattle.policy.proofs.Entries.{counts}
+use Rattle.policy.proofs.Entries.{Fit, counts, fit-of}
 use Rattle.policy.specs.Limits.{single}
-use Rattle.policy.specs.Sound.{countsFit, unusedZero}
+use Rattle.policy.specs.Sound.{countsFit}
 use Rattle.policy.specs.Tables.{viewOf}
 use Rattle.wholerules.proofs.Laws.Parts.{parts-refusal}
 use Rattle.validate.specs.Parts.{recordOf}
@@ -17,67 +16,50 @@ use Rattle.validate.proofs.test.lent_passes.Tie as tie
 returns : tie.Need-returns
 unfolding countsFit
 returns c =
-    let n = c .before .before .before .before .before .before .before .before .before .before .args .counts in
+    let n = c .before .before .before .before .before .before .before .before .before .before .before .before .before .args .counts in
     let over : countsFit single (viewOf (recordOf n [] [] [] [] [] [] [] [] [])) ≡ false = not-true _ (c .if1 .taken) in
     rw over
 
-unused-zero-requires : tie.Need-unused-zero-requires
-unused-zero-requires c κs = search needs
-
-lines-hold-requires : tie.Need-lines-hold-requires
+entries-hold-requires : tie.Need-entries-hold-requires
 unfolding countsFit
-lines-hold-requires c κs =
-    let start = c .before .before .before .before .before .before .before .before .before .before .before in
+entries-hold-requires c κs =
+    let start = c .before .before .before .before .before .before .before .before .before .before .before .before .before in
     let v = viewOf (recordOf (start .args .counts) [] [] [] [] [] [] [] [] []) in
-    let fit = counts single v (not-false _ (c .before .if1 .left)) in
+    let fit = counts single v (not-false _ (c .if1 .left)) in
     ((fit .segments, fit .partitions, fit .slots), start .pre)
 
-lent-refusal-requires : tie.Need-lent-refusal-requires
+whole-passes-requires : tie.Need-whole-passes-requires
 unfolding countsFit
-lent-refusal-requires c κs =
-    let start = c .before .before .before .before .before .before .before .before .before .before .before .before in
+whole-passes-requires c κs =
+    let start = c .before .before .before .before .before .before .before .before .before .before .before .before .before .before in
     let v = viewOf (recordOf (start .args .counts) [] [] [] [] [] [] [] [] []) in
-    let fit = counts single v (not-false _ (c .before .before .if1 .left)) in
-    let paired = start .pre .0 in
-    let masks = start .pre .1 in (
-      (omega (arith, fit .segments), omega (arith, fit .partitions), rw (masks .segments-long) (fit .segments)),
-      (
-        rw (paired .partitions-long) (fit .partitions),
-        (
-          rw (← paired .partitions, paired .partitions-long) (fit .partitions),
-          rw (masks .partitions-read) (fit .partitions),
-          rw (masks .partitions-write) (fit .partitions),
-        ),
-      ),
-    )
-
-is-accepted-requires : tie.Need-is-accepted-requires
-is-accepted-requires c κs = search needs
+    let fit = counts single v (not-false _ (c .before .if1 .left)) in
+    ((fit .segments, fit .partitions), ((start .pre .0 .code-long, start .pre .0 .save-long), start .pre .1))
 
 returns-2 : tie.Need-returns-2
-unfolding countsFit unusedZero
+unfolding countsFit
 returns-2 c =
-    let lines = c .before .before in
-    let a = c .before .before .before .before .before .before .before .before .before .before .before .before .before .before .args in
+    let tested = c .before .before in
+    let known = tested .before .before .before .before in
+    let a = known .before .before .before .before .before .before .before .before .before .args in
     let n = a .counts in
-    let fit : countsFit single (viewOf (recordOf n [] [] [] [] [] [] [] [] [])) ≡ true =
-    not-false _ (lines .before .before .if1 .left) in
+    let t = recordOf n (a .base .now) (a .size .now) (a .code .now) (a .save .now) (a .owner .now) (a .ticks .now) (a .reads .now) (a .writes .now) (a .sources .now) in
+    let narrow : Fit single t =
+    record {
+      reads = λ i. omega (arith, known .before .before .shared-slice-known7 .given i);
+      writes = λ i. omega (arith, known .before .shared-slice-known8 .given i);
+      sources = λ i. omega (arith, known .shared-slice-known9 .given i);
+    } in
+    let fit : countsFit single (viewOf (recordOf n [] [] [] [] [] [] [] [] [])) ≡ true = not-false _ (tested .if1 .left) in
     rw (
-      c .is-accepted .ensures,
-      c .before .lent-refusal .ensures,
-      parts-refusal (recordOf n (a .base .now) (a .size .now) (a .code .now) (a .save .now) (a .owner .now) (a .ticks .now) (a .reads .now) (a .writes .now) (a .sources .now)),
-      lines .lines-hold .ensures,
-      lines .before .unused-zero .ensures,
+      c .whole-passes .ensures,
+      parts-refusal t,
+      c .before .entries-hold .ensures,
       fit,
+      fit-of single t narrow,
+      and-true,
     )
 
 pub lent-passes-spec : {M : Type 1} → statement M
 lent-passes-spec =
-    tie.close
-    (tie.spec
-    returns
-    unused-zero-requires
-    lines-hold-requires
-    lent-refusal-requires
-    is-accepted-requires
-    returns-2)
+    tie.close (tie.spec returns entries-hold-requires whole-passes-requires returns-2)

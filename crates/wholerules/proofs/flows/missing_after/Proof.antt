@@ -6,19 +6,18 @@ use native.Mathlib.Omega.{arith}
 use borrow.Author.Needs.{needs}
 use Rattle.policy.specs.ByTarget.{foundAfter}
 use Rattle.policy.proofs.ByTarget.{found-next}
-use Rattle.policy.proofs.Laws.Zeros.{zero-at}
 use Rattle.wholerules.specs.Parts.{partsOf}
-use Rattle.wholerules.proofs.Laws.Kept.{kept-asked}
+use Rattle.wholerules.proofs.Laws.Lackers.{lackers-told}
 use Rattle.wholerules.proofs.Laws.Sources.{target-told}
 use Rattle.wholerules.proofs.flows.missing_after.Statement.{statement}
 use Rattle.wholerules.proofs.flows.missing_after.Tie as tie
 
 abbrev Inv-loop : tie.InvT-loop
-Inv-loop save reads writes sources segments partitions targets reached written kept all found₀ t₀ found t =
+Inv-loop save reads writes sources segments partitions targets reached written all found₀ t₀ found t =
     (t ≤ targets) × (found ≡ foundAfter (partsOf segments partitions 0 [] save reads writes sources) t)
 
 abbrev μ-loop : tie.MeasureT-loop
-μ-loop save reads writes sources segments partitions targets reached written kept all found₀ t₀ found t = targets - t
+μ-loop save reads writes sources segments partitions targets reached written all found₀ t₀ found t = targets - t
 
 slice-aggregate-reach-all : tie.Need-slice-aggregate-reach-all Inv-loop μ-loop
 slice-aggregate-reach-all c = search needs
@@ -26,11 +25,8 @@ slice-aggregate-reach-all c = search needs
 slice-aggregate-reach-all-2 : tie.Need-slice-aggregate-reach-all-2 Inv-loop μ-loop
 slice-aggregate-reach-all-2 c = search needs
 
-slice-aggregate-reach-all-3 : tie.Need-slice-aggregate-reach-all-3 Inv-loop μ-loop
-slice-aggregate-reach-all-3 c = search needs
-
 reach-all-requires : tie.Need-reach-all-requires Inv-loop μ-loop
-reach-all-requires c κs = (search needs, ((search needs, zero-at 64), search needs))
+reach-all-requires c κs = search needs
 
 loop-holds : tie.Need-loop-holds Inv-loop μ-loop
 unfolding foundAfter
@@ -57,21 +53,19 @@ slice-aggregate-target-lacks c = search needs
 slice-aggregate-target-lacks-2 : tie.Need-slice-aggregate-target-lacks-2 Inv-loop μ-loop
 slice-aggregate-target-lacks-2 c = search needs
 
-slice-aggregate-target-lacks-3 : tie.Need-slice-aggregate-target-lacks-3 Inv-loop μ-loop
-slice-aggregate-target-lacks-3 c = search needs
-
 target-lacks-requires : tie.Need-target-lacks-requires Inv-loop μ-loop
 target-lacks-requires c κs =
-    let l = c .before .before .before .before .before .before in
-    let all = l .before .before .before .before .reach-all .ensures in
-    let a = l .before .before .before .before .before .before .before .before .before .before .before .before .args in
+    let l = c .before .before .before .before .before in
+    let all = l .before .before .before .reach-all .ensures in
+    let a = l .before .before .before .before .before .before .before .before .before .before .args in
     let there : l .loop .t < a .segments = search needs in (
       search needs,
       (
-        (all .2, search needs),
+        all .2,
         λ none.
-            all .4 (l .loop .t) there
-            ∙ kept-asked (a .save .now) _ (a .writes .now) _ (a .segments) (l .loop .t) there (a .partitions) (all .1) (rw (all .3) at none),
+            rw (all .4 (l .loop .t) there, c .before .before .worth .ensures)
+            (lackers-told (a .segments) (a .partitions) (a .save .now) (a .reads .now) (a .writes .now) (a .sources .now) (l .loop .t) there
+            _ _ (all .0) (all .1) (rw (all .3) at none)),
       ),
     )
 
@@ -83,16 +77,16 @@ loop-less c = search needs
 
 loop-again : tie.Need-loop-again Inv-loop μ-loop
 loop-again c =
-    let l = c .before .before .before .before .before .before .before in
-    let reached = l .before .before .before .before .reach-all .ensures in
-    let start = l .before .before .before .before .before .before .before .before .before .before .before .before in
+    let l = c .before .before .before .before .before .before in
+    let reached = l .before .before .before .reach-all .ensures in
+    let start = l .before .before .before .before .before .before .before .before .before .before in
     let a = start .args in
-    let there : l .loop .t < a .segments = omega (arith, c .before .before .before .before .before .before .loop-test .taken, start .pre .0 .2) in (
+    let there : l .loop .t < a .segments = omega (arith, c .before .before .before .before .before .loop-test .taken, start .pre .0 .2) in (
       omega arith,
       found-next (partsOf (a .segments) (a .partitions) 0 [] (a .save .now) (a .reads .now) (a .writes .now) (a .sources .now)) (l .loop .t) _ _
           (l .loop .inv .1)
           (c .target-lacks .ensures
-          ∙ rw (c .before .before .before .before .worth .ensures)
+          ∙ rw (c .before .before .before .worth .ensures)
           (target-told (a .segments) (a .partitions) (a .save .now) (a .reads .now) (a .writes .now) (a .sources .now) _ _
           (reached .0) (reached .1) (l .loop .t) there)),
     )
@@ -100,8 +94,8 @@ loop-again c =
 returns : tie.Need-returns Inv-loop μ-loop
 returns c =
     let l = c .before in
-    let q : l .loop .t ≡ l .before .before .before .before .before .before .before .before .before .before .before .before .args .targets = omega arith in
-    (l .loop .inv .1 ∙ rw q, l .before .before .before .before .reach-all .ensures .5)
+    let q : l .loop .t ≡ l .before .before .before .before .before .before .before .before .before .before .args .targets = omega arith in
+    (l .loop .inv .1 ∙ rw q, l .before .before .before .reach-all .ensures .5)
 
 pub missing-after-spec : {M : Type 1} → statement M
 missing-after-spec =
@@ -111,7 +105,6 @@ missing-after-spec =
     μ-loop
     slice-aggregate-reach-all
     slice-aggregate-reach-all-2
-    slice-aggregate-reach-all-3
     reach-all-requires
     loop-holds
     cast-allowed
@@ -121,7 +114,6 @@ missing-after-spec =
     worth-requires
     slice-aggregate-target-lacks
     slice-aggregate-target-lacks-2
-    slice-aggregate-target-lacks-3
     target-lacks-requires
     add-t
     loop-less

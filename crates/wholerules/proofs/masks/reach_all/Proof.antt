@@ -1,45 +1,50 @@
--- The loop writes each partition's masks at its place; the invariant: those before p are written, all that they have is gathered, what they reach is
--- kept for their save segments, and whether one of these has a stray source is known.
+-- The loop writes each partition's masks at its place; the invariant: those before p are written, all that they have is gathered, and of their save
+-- segments it is known which lack a line and whether one has a stray source.
 use Prim.Native.Nat.{ℕ, _-_, _<_}
 use mathlib.Core.Path.{_≡_, refl, _∙_}
+use mathlib.Core.Bool.{_&&_}
 use mathlib.Core.List.{[]}
 use native.Mathlib.Omega.{arith}
+use lib.Dec.{eqb}
 use lib.ListN.{getD, length}
 use borrow.Author.Needs.{needs}
-use Rattle.bits.specs.Masks.{maskOf}
+use Rattle.bits.specs.Masks.{has, maskOf}
+use Rattle.bits.proofs.Laws.Masks.{has-none, has-or}
 use Rattle.policy.specs.Below.{someBelow}
+use Rattle.policy.specs.ByTarget.{partitionLacks}
 use Rattle.policy.specs.Whole.{flowStrays, strayFlow}
 use Rattle.policy.proofs.Laws.Below.{some-next}
-use Rattle.wholerules.specs.Masks.{joined, keptFor, reach}
+use Rattle.wholerules.specs.Masks.{joined, reach}
 use Rattle.wholerules.specs.Parts.{partsOf}
 use Rattle.wholerules.proofs.Laws.Asked.{joined-more, joined-next, reached-is}
 use Rattle.wholerules.proofs.Laws.Filled.{Filled, fill-none, fill-more, fill-done}
-use Rattle.wholerules.proofs.Laws.Kept.{kept-more}
+use Rattle.wholerules.proofs.Laws.Lackers.{own-told}
 use Rattle.wholerules.proofs.Laws.Strays.{sources-told}
 use Rattle.wholerules.proofs.masks.reach_all.Statement.{statement}
 use Rattle.wholerules.proofs.masks.reach_all.Tie as tie
 
 abbrev Inv-loop : tie.InvT-loop
-Inv-loop save reads writes sources segments partitions reached₀ written₀ kept₀ there any-reached₀ any-given₀ stray₀ p₀ reached written kept any-reached any-given stray p =
+Inv-loop save reads writes sources segments partitions reached₀ written₀ there any-reached₀ any-given₀ lackers₀ stray₀ p₀ reached written any-reached any-given lackers stray p =
+    let v = partsOf segments partitions 0 [] save reads writes sources in
     Filled partitions (λ q. maskOf segments (reach save reads q)) reached₀ reached p
     × Filled partitions (λ q. maskOf segments (reach save writes q)) written₀ written p
     × (any-reached ≡ joined reached p)
     × (any-given ≡ joined writes p)
-    × (stray ≡ someBelow p (λ q. someBelow segments (flowStrays (partsOf segments partitions 0 [] save reads writes sources) q)))
-    × (length kept ≡ length kept₀)
-    × ((t : ℕ) → t < segments → getD kept t 0 ≡ keptFor save reached t p)
+    × (stray ≡ someBelow p (λ q. someBelow segments (flowStrays v q)))
+    × ((t : ℕ) → t < segments → has lackers t ≡ someBelow p (λ q. eqb t (getD save q 0) && partitionLacks v t q))
 
 abbrev μ-loop : tie.MeasureT-loop
-μ-loop save reads writes sources segments partitions reached₀ written₀ kept₀ there any-reached₀ any-given₀ stray₀ p₀ reached written kept any-reached any-given stray p = partitions - p
+μ-loop save reads writes sources segments partitions reached₀ written₀ there any-reached₀ any-given₀ lackers₀ stray₀ p₀ reached written any-reached any-given lackers stray p =
+    partitions - p
 
 bits-below-requires : tie.Need-bits-below-requires Inv-loop μ-loop
 bits-below-requires c κs = search needs
 
 loop-holds : tie.Need-loop-holds Inv-loop μ-loop
-unfolding joined someBelow keptFor
+unfolding joined someBelow
 loop-holds c =
-    let pre = c .before .before .before .before .before .before .before .before .pre in
-    (fill-none _ _ _ (pre .0 .1), fill-none _ _ _ (pre .0 .2), refl, refl, refl, refl, λ t l. pre .1 .0 .1 t)
+    let pre = c .before .before .before .before .before .before .before .pre in
+    (fill-none _ _ _ (pre .0 .1), fill-none _ _ _ (pre .0 .2), refl, refl, refl, λ t l. has-none t)
 
 cast-s : tie.Need-cast-s Inv-loop μ-loop
 cast-s c = search needs
@@ -77,6 +82,12 @@ mask-at-requires c κs = search needs
 within-requires : tie.Need-within-requires Inv-loop μ-loop
 within-requires c κs = search needs
 
+within-requires-2 : tie.Need-within-requires-2 Inv-loop μ-loop
+within-requires-2 c κs = search needs
+
+picked-requires : tie.Need-picked-requires Inv-loop μ-loop
+picked-requires c κs = search needs
+
 cast-reached : tie.Need-cast-reached Inv-loop μ-loop
 cast-reached c = search needs
 
@@ -95,12 +106,6 @@ mul-written c = search needs
 slice-write-written : tie.Need-slice-write-written Inv-loop μ-loop
 slice-write-written c = search needs
 
-keep-requires : tie.Need-keep-requires Inv-loop μ-loop
-keep-requires c κs =
-    let l = c .before .before .before .before .before .before .before .before in
-    let pre = l .before .before .before .before .before .before .before .before .before .pre in
-    omega (arith, l .loop .inv .5, pre .1 .0 .0)
-
 add-p : tie.Need-add-p Inv-loop μ-loop
 add-p c = search needs
 
@@ -109,23 +114,29 @@ loop-less c = search needs
 
 loop-again : tie.Need-loop-again Inv-loop μ-loop
 loop-again c =
-    let w = c .before .before .before .before in
-    let l = w .before .before .before .before .before .before .before in
-    let start = l .before .before .before .before .before .before .before .before .before in
+    let w = c .before .before in
+    let turn = w .before .before .before .before in
+    let l = turn .before .before .before in
+    let start = l .before .before .before .before .before .before .before .before in
+    let a = start .args in
     let inv = l .loop .inv in
-    let more = w .before .before .before .before .before .before .loop-test .taken in
+    let more = turn .before .before .loop-test .taken in
     let there = l .before .bits-below .ensures in
-    let at = reached-is (start .args .segments) _ _ _ (start .pre .0 .0) (w .before .before .before .before .bit-of .ensures) there in
-    let wide : l .loop .p < length (l .loop .reached) = omega (arith, inv .0 .wide, inv .0 .long, more) in
-    let keep = c .before .before .keep .ensures in (
+    let own = turn .bit-of .ensures in
+    let from = w .before .mask-at .ensures in
+    let at = reached-is (a .segments) _ _ _ (start .pre .0 .0) own there in
+    let wide : l .loop .p < length (l .loop .reached) = omega (arith, inv .0 .wide, inv .0 .long, more) in (
       fill-more _ _ _ _ _ (inv .0) _ more (at _ _ _ refl refl),
       fill-more _ _ _ _ _ (inv .1) _ more (at _ _ _ refl refl),
       joined-more _ _ _ _ wide (inv .2),
       joined-next _ _ _ _ (inv .3) refl,
-      some-next _ _ _ _ (inv .4)
-          (rw (w .within .ensures) (sources-told _ _ _ _ _ _ _ there (at _ _ _ refl refl) (w .before .mask-at .ensures))),
-      keep .0 ∙ inv .5,
-      λ t k. keep .1 t k ∙ kept-more _ _ t _ _ _ wide (inv .6 t k),
+      some-next _ _ _ _ (inv .4) (rw (w .within .ensures) (sources-told _ _ _ _ _ _ _ there (at _ _ _ refl refl) from)),
+      λ t k.
+          has-or (l .loop .lackers) _ t
+          ∙ some-next _ _ _ _ (inv .5 t k)
+          (rw (c .picked .ensures, c .before .within2 .ensures)
+          (own-told (a .segments) (a .partitions) (a .save .now) (a .reads .now) (a .writes .now) (a .sources .now) t k
+          (l .loop .p) _ _ _ _ _ (start .pre .0 .0) refl there own (at _ _ _ refl refl) from)),
     )
 
 same-length : tie.Need-same-length Inv-loop μ-loop
@@ -134,16 +145,13 @@ same-length c = c .before .loop .inv .0 .long
 same-length-2 : tie.Need-same-length-2 Inv-loop μ-loop
 same-length-2 c = c .before .loop .inv .1 .long
 
-same-length-3 : tie.Need-same-length-3 Inv-loop μ-loop
-same-length-3 c = c .before .loop .inv .5
-
 returns : tie.Need-returns Inv-loop μ-loop
 unfolding strayFlow
 returns c =
     let inv = c .before .loop .inv in
     let q = c .loop-test .left in
-    let e : c .before .loop .p ≡ c .before .before .before .before .before .before .before .before .before .before .args .partitions = omega (arith, q, inv .0 .within) in
-    (fill-done _ _ _ _ _ (inv .0) q, fill-done _ _ _ _ _ (inv .1) q, inv .2 ∙ rw e, inv .3 ∙ rw e, λ t k. inv .6 t k ∙ rw e, inv .4 ∙ rw e)
+    let e : c .before .loop .p ≡ c .before .before .before .before .before .before .before .before .before .args .partitions = omega (arith, q, inv .0 .within) in
+    (fill-done _ _ _ _ _ (inv .0) q, fill-done _ _ _ _ _ (inv .1) q, inv .2 ∙ rw e, inv .3 ∙ rw e, λ t k. inv .5 t k ∙ rw e, inv .4 ∙ rw e)
 
 pub reach-all-spec : {M : Type 1} → statement M
 reach-all-spec =
@@ -165,17 +173,17 @@ reach-all-spec =
     cast-mask-at
     mask-at-requires
     within-requires
+    within-requires-2
+    picked-requires
     cast-reached
     mul-reached
     slice-write-reached
     cast-written
     mul-written
     slice-write-written
-    keep-requires
     add-p
     loop-less
     loop-again
     same-length
     same-length-2
-    same-length-3
     returns)
