@@ -1,2 +1,2 @@
--- Masks of bits, and of several masks together.
+-- Masks of bits.
 pub mod Masks

@@ -121,8 +121,8 @@ fn store_word_at(memory: &mut [u8], start: usize, size: usize, at: u32, n: u32)
     put_word_at(&mut memory[start..end], at, n);
 }
 
-// Register a takes the byte at the offset that register b has. Like each of the four it is handed the counter, and hands
-// back the counter after it: a fault leaves it. A load leaves lines and state too, and asks after a fault alone.
+// Register a takes the byte at the offset that register b has. Each of the four is handed the counter, and hands on what
+// the next tick is handed. A load leaves lines and state, so the next tick asks for them after a fault alone.
 pub fn load_from(
     memory: &mut [u8],
     from: usize,

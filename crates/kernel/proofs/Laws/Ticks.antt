@@ -29,7 +29,7 @@ short-by c n left end at most small fits e f = omega arith
 few-left : (left : ℕ) → left ≤ mostTicks → left % 1024 ≡ left
 few-left left h = mod-eq-of-lt (omega arith)
 
-pub next-count : (c n left end at : ℕ) → left ≤ n → n ≤ mostTicks → at < counts → end ≡ countAfter n c → (at + left % 1024) % counts ≡ end → at ≡ countAfter (n - left) c
+next-count : (c n left end at : ℕ) → left ≤ n → n ≤ mostTicks → at < counts → end ≡ countAfter n c → (at + left % 1024) % counts ≡ end → at ≡ countAfter (n - left) c
 next-count c n left end at most small fits e f =
     short-by c n left end at most small fits e (ap (λ k. (at + k) % counts) (sym (few-left left (omega arith))) ∙ f)
 

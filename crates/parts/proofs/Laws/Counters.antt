@@ -30,7 +30,7 @@ module _ (m : List ℕ) (from : ℕ) (fits : from + 44 ≤ length m) where
     saved-back : savedAt (withSaved m from bytes) from ≡ bytes
     saved-back = part-put m from 44 bytes fits (long ∙ saved-long)
 
-    pub counter-back : counter (savedAt (withSaved m from bytes) from) ≡ counter bytes
+    counter-back : counter (savedAt (withSaved m from bytes) from) ≡ counter bytes
     counter-back = ap counter saved-back
 
     pub hands-back : (next : ℕ) → Hands next (savedAt m from) bytes → Hands next (savedAt m from) (savedAt (withSaved m from bytes) from)

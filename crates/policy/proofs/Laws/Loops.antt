@@ -1,8 +1,7 @@
 -- Loops over the numbers below a bound: what holds on their ways. `found` and `good` are what the code's test answered.
 use Prim.Native.Nat.{ℕ, _+_, _<_, _≤_}
 use mathlib.Core.Path.{_≡_, refl, sym, _∙_}
-use mathlib.Core.Bool.{Bool, true, false, not, and-true, and-false}
-use native.Mathlib.Numerals.{add-one}
+use mathlib.Core.Bool.{Bool, true, false, not}
 use native.Mathlib.Omega.{arith}
 use borrow.Author.Tests.{not-true, not-false}
 use Rattle.policy.specs.Below.{someBelow, eachBelow}
@@ -42,23 +41,3 @@ module _ (n : ℕ) (f : ℕ → Bool) (i : ℕ) where
 
   pub test-done : Tested n f i → n ≤ i → true ≡ eachBelow n f
   test-done t l = let e : n ≡ i = omega arith in rw e (sym (t .1))
-
--- The loop that goes on to the bound. Before its i-th turn: each below i passes where none was found that fails.
-abbrev pub Told : ℕ → (ℕ → Bool) → ℕ → Bool → Type 0
-Told n f i found = (i ≤ n) × (eachBelow i f ≡ not found)
-
-pub told-none : (n : ℕ) (f : ℕ → Bool) → Told n f 0 false
-unfolding eachBelow
-told-none n f = (omega arith, refl)
-
-module _ (n : ℕ) (f : ℕ → Bool) (i : ℕ) (found : Bool) (t : Told n f i found) where
-  pub told-found : i < n → f i ≡ false → Told n f (i + 1) true
-  unfolding eachBelow
-  told-found l e = (omega arith, rw (add-one, e, and-false))
-
-  pub told-more : i < n → f i ≡ true → Told n f (i + 1) found
-  unfolding eachBelow
-  told-more l e = (omega arith, rw (add-one, e, and-true) (t .1))
-
-  pub told-done : n ≤ i → not found ≡ eachBelow n f
-  told-done l = let e : n ≡ i = omega arith in rw e (sym (t .1))
