@@ -14,6 +14,7 @@ ghost use Rattle.calls.specs.Run.{stateOf, runAnswer, afterRun};
 ghost use Rattle.reach.specs.Answers.{reachAnswer, canReachAnswer};
 ghost use Rattle.sheet.specs.Answer.{sheetAnswer};
 ghost use Rattle.boundary.specs.Results.{Tells, runResult, reachResult, questionResult, sheetResult};
+ghost use Rattle.boundary.specs.Version.{version};
 use machine::Place;
 use policy::Policy;
 
@@ -52,6 +53,14 @@ pub struct SheetResult {
     pub number: u32,
     pub ticks: [u32; 8],
     pub silence: [u32; 8],
+}
+
+// A program compares it with the header that it was compiled with.
+#[no_mangle]
+pub extern "C" fn sk_version() -> u32
+    ensures { λ r. ⌜ r ≡ version ⌝ }
+{
+    3 * 65536 + 1
 }
 
 #[no_mangle]
