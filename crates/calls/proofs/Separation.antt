@@ -31,7 +31,7 @@ one-tick limits tables sound t ht x y sx sy current counts bytes sources =
 
 -- A flow line into a source comes from a source.
 chain-closed : {v : View} {s u t : ℕ} → FlowLine v s u → Chain v u t → Source v t s
-chain-closed f c = inr (more f c)
+chain-closed f c = inr (more (record { from = f .from; to = f .to; stands = f .stands }) c)
 
 source-closed : {v : View} {s u t : ℕ} → FlowLine v s u → Source v t u → Source v t s
 source-closed f (inl e) = inr (one (rw e at f))
@@ -140,7 +140,7 @@ whole-runs limits tables sound t ht cs ds m n place lm ln alike = end-alike limi
 
     lines : (k : ℕ) → k ≤ ticks u cs x → SameGap v t (gaps u cs x k) (gaps u ds y k)
     lines k l p line hp c =
-        let w = alike .same-lines p hp c k l line in
+        let w = alike .same-lines p hp c k (omega arith) line in
         (λ i. pended→has u (w .0 (has→pended u cs x k p line i)), λ i. pended→has u (w .1 (has→pended u ds y k p line i)))
 
     ends : Same limits v t (exec u cs x) (exec u ds y)

@@ -36,4 +36,4 @@ module _ (limits : Limits) (v : View) (w : Lawful limits v) where
   unfolding sumBelow
   current-at memory count i =
       let first = is-place v 0 0 count (w .some-slot) (w .ticks-least 0 (w .some-slot)) in
-      ap (booked v) (slot-at memory (placeOf 0 0 count) first i ∙ rw zero-add)
+      ap (booked v) (slot-at memory (placeOf 0 0 count) first i ∙ rw (zero-add i))

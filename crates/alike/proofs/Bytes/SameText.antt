@@ -154,10 +154,10 @@ module _ (b : Bytes) (t : Tables) (before : Key) (h : Both b t before) where
           bit-where (t .rights .reads) 8 (h .kept .lengths .reads) p s partition-there (givesRead mode) q u,
           bit-where (t .rights .writes) 8 (h .kept .lengths .writes) p s partition-there (givesWrite mode) q u,
           n,
-          and-false,
-          and-false,
-          or-false,
-          or-false,
+          and-false (givesRead mode),
+          and-false (givesWrite mode),
+          or-false (has (getD (t .rights .reads) q 0) u),
+          or-false (has (getD (t .rights .writes) q 0) u),
         ) at e
 
     behind-own : (q u : ℕ) → Behind before q u → Behind (keyOf (Right p s mode)) q u

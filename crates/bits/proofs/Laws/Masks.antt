@@ -190,7 +190,7 @@ has-mask f (suc n) s = ap (λ (m : ℕ). has m s) (mask-more f n) ∙ go (f n) r
     go false e h = h ∙ at (ℕ-discrete s n) (decLt s n)
       where
         at : Dec (s ≡ n) → Dec (s < n) → ltb s n && f s ≡ ltb s (suc n) && f s
-        at (yes q) d = rw (q, e, and-false, and-false)
+        at (yes q) d = rw (q, e, and-false (ltb n n), and-false (ltb n (suc n)))
         at (no q) (yes l) = rw (lt-ltb s n l, lt-ltb s (suc n) (omega arith))
         at (no q) (no l) = rw (le-ltb s n (omega arith), le-ltb s (suc n) (omega arith))
 

@@ -3,14 +3,16 @@ use Prim.Native.Nat.{ℕ, _<_}
 use mathlib.Core.Path.{_≡_, refl}
 use mathlib.Core.Bool.{Bool, true, false, cond}
 use mathlib.Core.List.{List}
-use lib.Dec.{leb}
-use borrow.Author.Tests.{leb-false, not-false}
-use Rattle.machine.specs.Machine.{State}
+use lib.ListN.{length}
+use lib.Dec.{leb, eqb}
+use borrow.Author.Tests.{leb-false, eqb-true, not-false}
+use Rattle.machine.specs.Machine.{State, Stands}
 use Rattle.machine.specs.Place.{isPlace}
 use Rattle.calls.specs.Under.{Under}
 use Rattle.calls.specs.declared.Outcome.{Outcome}
 use Rattle.calls.specs.declared.Outcome.the-variants.{Done, WrongMemory, Unsound, NoPartition, NoLine, NoPlace, TooManyTicks}
 use Rattle.calls.specs.Outcomes.{isDone, wrongMemory, unsound}
+use Rattle.calls.specs.Start.{startOutcome}
 use Rattle.calls.specs.Pend.{pendOutcome}
 use Rattle.calls.specs.Run.{runOutcome}
 
@@ -46,3 +48,23 @@ module _ (u : Under) where
       not-false (isPlace (u .view) (x .place))
       (left _ NoPlace _ refl
       (others (unsound u) Unsound _ refl (others (wrongMemory (u .limits) (x .memory)) WrongMemory _ refl h)))
+
+  pub run-sound : (x : State) (n : ℕ) → runOutcome u x n ≡ Done → u .sound ≡ true
+  unfolding runOutcome
+  run-sound x n h = not-false (u .sound) (left (unsound u) Unsound _ refl (others (wrongMemory (u .limits) (x .memory)) WrongMemory _ refl h))
+
+  run-whole : (x : State) (n : ℕ) → runOutcome u x n ≡ Done → length (x .memory) ≡ u .limits .memory
+  unfolding runOutcome
+  run-whole x n h = eqb-true _ _ (not-false (eqb (length (x .memory)) (u .limits .memory)) (left (wrongMemory (u .limits) (x .memory)) WrongMemory _ refl h))
+
+  -- The state that a Run acts on stands.
+  pub run-stands : (x : State) (n : ℕ) → runOutcome u x n ≡ Done → Stands (u .limits) (u .view) x
+  run-stands x n h = record { whole = run-whole x n h; placed = run-place x n h }
+
+  pub start-whole : (m : List ℕ) → startOutcome u m ≡ Done → length m ≡ u .limits .memory
+  unfolding startOutcome
+  start-whole m h = eqb-true _ _ (not-false (eqb (length m) (u .limits .memory)) (left (wrongMemory (u .limits) m) WrongMemory _ refl h))
+
+  pub start-sound : (m : List ℕ) → startOutcome u m ≡ Done → u .sound ≡ true
+  unfolding startOutcome
+  start-sound m h = not-false (u .sound) (left (unsound u) Unsound _ refl (others (wrongMemory (u .limits) m) WrongMemory _ refl h))

@@ -4,7 +4,7 @@ use Prim.Native.Nat.{ℕ, zero, suc, _+_, _≤_, _<_}
 use mathlib.Core.Path.{_≡_, refl, sym, _∙_, ap}
 use mathlib.Core.Bool.{true}
 use mathlib.Core.List.{List}
-use native.Mathlib.Nat.{zero-add, suc-add, lt-of-lt-of-le}
+use native.Mathlib.Nat.{lt-of-lt-of-le}
 use native.Mathlib.Omega.{arith}
 use lib.ListN.{length, getD}
 use Rattle.policy.specs.Limits.{Limits, mostTicks}
@@ -21,7 +21,7 @@ use Rattle.machine.proofs.Laws.Places.{slot-there, used-below}
 use Rattle.tick.specs.Seat.{Seated}
 use Rattle.tick.proofs.Laws.Record.{record-seated}
 use Rattle.calls.specs.Run.{stateOf, afterTicks}
-use Rattle.calls.proofs.Laws.Ticks.{ticks-stand}
+use Rattle.calls.proofs.Laws.Ticks.{ticks-stand, ticks-add}
 use Rattle.schedule.specs.Places.{movedBy}
 use Rattle.schedule.proofs.Laws.Places.{moved-within}
 use Rattle.kernel.specs.Stretch.{tickedBy}
@@ -37,11 +37,6 @@ pub record Reached (limits : Limits) (t : Tables) (x : State) (m : List ℕ) (he
 pub reached-none : (limits : Limits) (t : Tables) (m : List ℕ) (here : Place) → Stands limits (viewOf t) (stateOf m here) → Reached limits t (stateOf m here) m here 0
 unfolding afterTicks
 reached-none limits t m here s = record { stands = s; state = refl }
-
-ticks-add : (v : View) (i n : ℕ) (x : State) → afterTicks v (i + n) x ≡ afterTicks v n (afterTicks v i x)
-unfolding afterTicks
-ticks-add v zero n x = rw zero-add
-ticks-add v (suc i) n x = rw suc-add (ticks-add v i n (next v x))
 
 -- In one slot, ticks of a Run are ticks of the slot's partition.
 ticks-stretch : (v : View) (n : ℕ) (m : List ℕ) (here : Place) → here .used + n ≤ v .ticks (here .slot)

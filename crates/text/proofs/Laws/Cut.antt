@@ -39,7 +39,7 @@ module _ (b : ℕ) (s : List ℕ) (i : ℕ) where
 
 pub drop-take : (n m : ℕ) (l : List ℕ) → drop n (take (n + m) l) ≡ take m (drop n l)
 drop-take zero m l = rw zero-add
-drop-take (suc n) m [] = rw (take-nil, take-nil)
+drop-take (suc n) m [] = rw (take-nil (suc n + m), take-nil m)
 drop-take (suc n) m (x ∷ l) = rw suc-add (drop-take n m l)
 
 module _ (b : ℕ) where

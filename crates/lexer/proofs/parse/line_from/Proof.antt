@@ -1,6 +1,7 @@
 -- The line's record word and its first number; what is left of it is for its kind.
 use mathlib.Core.Path.{sym, _∙_}
 use native.Mathlib.Omega.{arith}
+use Rattle.text.specs.Rest.{restRead, afterFirst}
 use Rattle.text.proofs.Laws.Line.{line-read, line-none, line-same}
 use borrow.Author.Needs.{needs}
 use Rattle.lexer.proofs.parse.line_from.Statement.{statement}
@@ -41,8 +42,10 @@ returns-2 : tie.Need-returns-2
 returns-2 c =
     let first = c .before .before .before .before in
     let read = first .before .before in
-    c .pair-from .ensures
-    ∙ sym (line-read _ _ _ (read .before .word-from .ensures) (read .inner-from .ensures) (first .first .given .1))
+    _∙_
+    {b = restRead (afterFirst (read .before .word-from .result .kind) (first .first .given .0 .0)) (read .before .before .before .args .text .now) (read .inner-from .result .next)}
+    (c .pair-from .ensures)
+    (sym (line-read _ _ _ (read .before .word-from .ensures) (read .inner-from .ensures) (first .first .given .1)))
 
 triple-from-requires : tie.Need-triple-from-requires
 triple-from-requires c κs =
@@ -59,8 +62,10 @@ returns-3 : tie.Need-returns-3
 returns-3 c =
     let first = c .before .before .before .before in
     let read = first .before .before in
-    c .triple-from .ensures
-    ∙ sym (line-read _ _ _ (read .before .word-from .ensures) (read .inner-from .ensures) (first .first .given .1))
+    _∙_
+    {b = restRead (afterFirst (read .before .word-from .result .kind) (first .first .given .0 .0)) (read .before .before .before .args .text .now) (read .inner-from .result .next)}
+    (c .triple-from .ensures)
+    (sym (line-read _ _ _ (read .before .word-from .ensures) (read .inner-from .ensures) (first .first .given .1)))
 
 pub line-from-spec : {M : Type 1} → statement M
 line-from-spec =

@@ -31,7 +31,7 @@ enum-told-2 c = search needs
 
 returns : tie.Need-returns
 unfolding outOfOrder
-returns c = rw (c .before .enum-told .given .1, or-false, or-false)
+returns c = rw (c .before .enum-told .given .1) (simp or-false)
 
 returns-2 : tie.Need-returns-2
 unfolding outOfOrder
@@ -51,7 +51,7 @@ returns-5 c = rw (c .before .before .line4 .given .1, or-false, c .falls2 .ensur
 
 returns-6 : tie.Need-returns-6
 unfolding outOfOrder
-returns-6 c = rw (c .before .enum-told2 .given .1, or-false, or-false)
+returns-6 c = rw (c .before .enum-told2 .given .1) (simp or-false)
 
 pub out-of-order-spec : {M : Type 1} → statement M
 out-of-order-spec =

@@ -31,7 +31,7 @@ returns c =
     written-then (u .put-word .ensures)
     (written-then (v .put-byte .ensures) (written-then (t .put-word2 .ensures) (w .put-byte2 .ensures))) in
     let room = u .before .before .before .before .before .pre in
-    (all, omega (arith, rw (length-append, length-append) at (all .place), written-long all, room))
+    (all, omega (arith, simp length-append at (all .place), written-long all, room))
 
 pub put-words-spec : {M : Type 1} → statement M
 put-words-spec =

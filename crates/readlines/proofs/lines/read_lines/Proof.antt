@@ -3,7 +3,7 @@
 -- place in the record, and what is stored there is what the line adds.
 use Prim.Native.Nat.{_-_, _<_, _≤_}
 use mathlib.Core.Path.{_≡_, sym, _∙_, ap}
-use mathlib.Core.Logic.{⊎-elim}
+use mathlib.Core.Logic.{inl, inr}
 use native.Mathlib.Omega.{arith}
 use borrow.Author.Needs.{needs}
 use borrow.Author.Tests.{not-true, not-false}
@@ -257,18 +257,17 @@ arms : (c : tie.At-match-came Inv-loop μ-loop) →
 unfolding added
 arms c =
     let was = c .before .before .before .before .before .before .before .before .before .before .before .before .before .before .before .before .loop .policy in
-    ⊎-elim (λ a. rw (a .1 .given .1) (ap tablesOf (a .2), a .5 ∙ a .1 .given .1, a .3, still _ _ (a .4)))
-    (⊎-elim (λ a. rw (a .1 .given .1) (ap tablesOf (a .4), a .7, a .5, rw (a .6) (a .3 .ensures)))
-    (⊎-elim (λ a. rw (a .1 .given .1) (ap tablesOf (a .4), a .7, a .5 ∙ a .3 .ensures, still _ _ (a .6)))
-    (⊎-elim
-    (λ a.
-    let g = a .1 .given .0 in
-    let masks = stored-right was (g .0) (g .1 .0) (g .1 .1 .0) _ _ (a .4 .ensures) (a .6 .ensures) in
-    rw (a .1 .given .1) (ap tablesOf (a .7) ∙ masks, a .10, a .8, still _ _ (a .9)))
-    (⊎-elim
-    (λ a. rw (a .1 .given .1) (ap tablesOf (a .5) ∙ rw (a .4 .ensures), a .8, a .6, still _ _ (a .7)))
-    (λ a. rw (a .1 .given .1) (ap tablesOf (a .3), a .6, a .4, still _ _ (a .5)))))))
-    (c .match .came)
+    elim (c .match .came) [
+      | inl a ↦ rw (a .1 .given .1) (ap tablesOf (a .2), a .5 ∙ a .1 .given .1, a .3, still _ _ (a .4))
+      | inr (inl a) ↦ rw (a .1 .given .1) (ap tablesOf (a .4), a .7, a .5, rw (a .6) (a .3 .ensures))
+      | inr (inr (inl a)) ↦ rw (a .1 .given .1) (ap tablesOf (a .4), a .7, a .5 ∙ a .3 .ensures, still _ _ (a .6))
+      | inr (inr (inr (inl a))) ↦
+          let g = a .1 .given .0 in
+          let masks = stored-right was (g .0) (g .1 .0) (g .1 .1 .0) _ _ (a .4 .ensures) (a .6 .ensures) in
+          rw (a .1 .given .1) (ap tablesOf (a .7) ∙ masks, a .10, a .8, still _ _ (a .9))
+      | inr (inr (inr (inr (inl a)))) ↦ rw (a .1 .given .1) (ap tablesOf (a .5) ∙ rw (a .4 .ensures), a .8, a .6, still _ _ (a .7))
+      | inr (inr (inr (inr (inr a)))) ↦ rw (a .1 .given .1) (ap tablesOf (a .3), a .6, a .4, still _ _ (a .5))
+    ]
 
 key-of-requires : tie.Need-key-of-requires Inv-loop μ-loop
 key-of-requires c κs = search needs

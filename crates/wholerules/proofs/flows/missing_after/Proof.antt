@@ -83,10 +83,9 @@ loop-again c =
     let a = start .args in
     let there : l .loop .t < a .segments = omega (arith, c .before .before .before .before .before .loop-test .taken, start .pre .0 .2) in (
       omega arith,
-      found-next (partsOf (a .segments) (a .partitions) 0 [] (a .save .now) (a .reads .now) (a .writes .now) (a .sources .now)) (l .loop .t) _ _
+      found-next (partsOf (a .segments) (a .partitions) 0 [] (a .save .now) (a .reads .now) (a .writes .now) (a .sources .now)) (l .loop .t) _ (c .target-lacks .result)
           (l .loop .inv .1)
-          (c .target-lacks .ensures
-          ∙ rw (c .before .before .before .worth .ensures)
+          (rw (c .target-lacks .ensures, c .before .before .before .worth .ensures)
           (target-told (a .segments) (a .partitions) (a .save .now) (a .reads .now) (a .writes .now) (a .sources .now) _ _
           (reached .0) (reached .1) (l .loop .t) there)),
     )

@@ -1,5 +1,4 @@
 -- A widened mask is the same number.
-use mathlib.Core.Path.{_∙_}
 use borrow.Author.Needs.{needs}
 use Rattle.wholerules.proofs.rules.record_refusal.Statement.{statement}
 use Rattle.wholerules.proofs.rules.record_refusal.Tie as tie
@@ -39,7 +38,7 @@ returns c =
     let third = c .before .before .before .before .before in
     let second = third .before .before .before in
     let first = second .before .before .before in
-    c .lent-refusal .ensures ∙ rw (first .widen .ensures .0, second .widen2 .ensures .0, third .widen3 .ensures .0)
+    rw (first .widen .ensures .0, second .widen2 .ensures .0, third .widen3 .ensures .0) at (c .lent-refusal .ensures)
 
 pub record-refusal-spec : {M : Type 1} → statement M
 record-refusal-spec =
