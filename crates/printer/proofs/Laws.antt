@@ -2,6 +2,7 @@
 pub mod Decimal
 pub mod Cut
 pub mod Lines
+pub mod Bytes
 -- What the test tells of a record, and how long its lines are.
 pub mod Passed
 pub mod Fits
