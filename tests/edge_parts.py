@@ -1,4 +1,4 @@
-"""What edge_runs.py, edge_words.py, edge_counts.py, edge_reach.py and edge_sheet.py are made of: policies, instructions, save segments, and the list of scenarios."""
+"""What edge_runs.py and the edge files that it names are made of: policies, instructions, save segments, and the list of scenarios."""
 from scenarios import Scenario
 
 TOP = 4294967295

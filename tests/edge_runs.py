@@ -5,13 +5,14 @@
 
 scenarios.py has the form of both files; the expected answers come from machine_reference.py, reach_reference.py and sheet_reference.py. edge_words.py has
 the calls that move four bytes at once, edge_counts.py those about the count of ticks, edge_reach.py those that ask who can reach whom, edge_sheet.py those
-that ask for the schedule sheet.
+that ask for the schedule sheet, edge_clauses.py those that fix one clause each.
 """
 import os
 import sys
 
 from edge_parts import ADD, AND, BACK, HALT, JUMP, LISTEN, LOAD, SET, SHIFT, STORE, SUB, WAIT, XOR
 from edge_parts import BENCH, DEMO, FULL, HIGH, SAVE, SCENARIOS, SELF, SHARED, TOP, add, bench, code, policy, save
+from edge_clauses import add_clauses
 from edge_counts import add_counts
 from edge_reach import add_reach
 from edge_sheet import add_sheets
@@ -288,6 +289,7 @@ add_words()
 add_counts()
 add_reach()
 add_sheets()
+add_clauses()
 
 
 def main(root):

@@ -4,11 +4,14 @@
     edge_texts.py ROOT     writes crates/texts/data/cases and crates/texts/stdout below the repository ROOT
 
 A case is its name, filled up with spaces to 40 bytes, its length in 7 digits, a line end, and then that many bytes. The expected answers come from policy_reference.py.
-edge_sources.py has the texts with flow lines into save segments that refusal 16 is about.
+edge_sources.py has the texts with flow lines into save segments that refusal 16 is about, edge_lines.py those that fail in one clause alone,
+edge_policies.py those of the folder policies/.
 """
 import os
 import sys
 
+from edge_lines import add_lines
+from edge_policies import add_policies
 from edge_sources import add_sources
 from policy_reference import read
 from text_parts import CASES, DEMO, add, demo, hexed, longest, many_segments, small, text
@@ -369,6 +372,8 @@ add("hex-4-before-5", demo((1, b"segment 1 0x3f 0x1388")))
 add("hex-first-line-wins", demo((0, b"segment 0 0 0x0"), (17, b"slot 1 0X2")))
 
 add_sources()
+add_lines()
+add_policies()
 
 
 def main(root):

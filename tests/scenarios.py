@@ -1,9 +1,9 @@
 """A scenario for the test program crates/runs: a policy, a memory and steps; how it is written to the program's file, and what the program must
 write. The expected answers come from machine_reference.py, reach_reference.py and sheet_reference.py.
 
-In the file, a scenario is its name, filled up with spaces to 40 bytes, the memory's length in 10 digits, a space, the policy text's length in 10
-digits, a line end, and the text; then its steps. A step is a word, filled up with spaces to 8 bytes, and three numbers of 10 digits, parted by
-spaces, with a line end. The last step is `end`. Words differ in their first letter.
+In the file, a scenario is a line of its name, the memory's length and the policy text's length, then the text, then its steps. A step is a line of a
+word and up to three numbers; after `write` comes a line of bytes, three digits each. What stands in a line is parted by one space. The last step is
+`end`. Words differ in their first letter.
 """
 import machine_reference as machine
 from reach_reference import can_reach, reach
@@ -46,7 +46,7 @@ class Scenario:
 
     def write(self, at, data):
         """Bytes put into memory."""
-        return self.step("write", at, len(data), data=bytes(data))
+        return self.step("write", at, data=bytes(data))
 
     def fill(self, k):
         """Every byte of memory becomes one that is not 0."""
@@ -78,10 +78,9 @@ class Scenario:
         return self.step("ticks")
 
     def encoded(self):
-        out = [b"%s%010d %010d\n" % (self.name.encode().ljust(40), self.size, len(self.text)), self.text]
+        out = [b"%s %d %d\n" % (self.name.encode(), self.size, len(self.text)), self.text]
         for word, numbers, data in self.steps + [("end", [], b"")]:
-            x, y, z = (numbers + [0, 0, 0])[:3]
-            out.append(b"%s%010d %010d %010d\n" % (word.encode().ljust(8), x, y, z))
+            out.append(" ".join([word, *(str(n) for n in numbers)]).encode() + b"\n")
             if data:
                 out.append(b" ".join(b"%03d" % b for b in data) + b"\n")
         return b"".join(out)

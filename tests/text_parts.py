@@ -43,14 +43,21 @@ def many_segments(n):
 
 
 def longest(stray=False):
-    """Every segment, partition, right, flow and slot that there is room for, with wide numbers. 0 to 7 are the save segments; flow lines from one into another,
-    which 16 refuses, stand only where they are asked for."""
-    segments = [b"segment %d %d %d" % (i, 12000 + 44 * i, 44) if i < 8 else b"segment %d %d %d" % (i, 100 * i + 1000, 100) for i in range(32)]
+    """The longest text in decimal: 13,639 bytes where it is accepted, and 14,143 with the flow lines from one save segment into another, which 16 refuses.
+
+    0 to 7 are the save segments, since these have no right lines and ids below 10 are short; with fewer partitions fewer bytes of flow lines come than of
+    right lines go. Nine segments have a base of four digits and a length of four, as many as there is room for; of the others, with a base of five digits,
+    five have a length of four digits. A sixth would need 900 bytes more, and a segment moved down gives 100 and costs a digit."""
+    spans = [(10000 + 44 * i, 44) for i in range(8)] + [(1000 * i, 1000) for i in range(1, 10)]
+    spans += [(10352 + 1000 * i, 1000) for i in range(5)] + [(15352 + 100 * i, 100) for i in range(10)]
+    segments = [b"segment %d %d %d" % (i, *span) for i, span in enumerate(spans)]
     partitions = [b"partition %d %d %d" % (p, 31, p) for p in range(8)]
     rights = [b"right %d %d rw" % (p, s) for p in range(8) for s in range(8, 32)]
     flows = [b"flow %d %d" % (a, b) for a in range(32) for b in range(32) if a != b and (stray or a > 7 or b > 7)]
     slots = [b"slot 7 1000" for _ in range(32)]
-    return segments + partitions + rights + flows + slots
+    lines = segments + partitions + rights + flows + slots
+    assert len(text(*lines)) == (14143 if stray else 13639)
+    return lines
 
 
 def hexed(lines, form=lambda line, field: True):
