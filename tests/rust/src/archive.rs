@@ -1,126 +1,100 @@
-//! The proved kernel, linked from the static library through its C boundary; for the benchmark also an earlier one, whose functions have been renamed.
+//! The proved kernel, by its bindings for Rust: the boundary's functions themselves, which take all inputs, and the safe crate above them.
 
-use crate::boundary::{Answer, Kernel, Place, Policy, ReachResult, ReadResult, RunResult, SheetResult};
+use crate::boundary::{Answer, Kernel, Place, Policy, ReachResult, ReadResult, Refused, RunResult, SheetResult};
+use crate::{accepted, refused};
+use separation_kernel::{sys, Memory, Refusal};
 
-/// The place and the result before version 3.0, without a count.
-#[cfg(all(feature = "before", not(feature = "before-counts")))]
-mod uncounted {
-    use crate::boundary;
+/// The boundary's functions: a record may be unsound here, and a memory of any length.
+pub struct Archive;
 
-    #[repr(C)]
-    #[derive(Clone, Copy)]
-    pub struct Place {
-        slot: u32,
-        used: u32,
+// In each call the pointer and the length are those of one Rust slice, lent for the length of the call.
+impl Kernel for Archive {
+    fn name(&self) -> &'static str {
+        "archive"
     }
-
-    #[repr(C)]
-    #[derive(Clone, Copy)]
-    pub struct RunResult {
-        number: u32,
-        place: Place,
+    fn read(&self, text: &[u8]) -> ReadResult {
+        unsafe { sys::sk_read(text.as_ptr(), text.len()) }
     }
-
-    impl From<boundary::Place> for Place {
-        fn from(place: boundary::Place) -> Place {
-            Place { slot: place.slot, used: place.used }
-        }
+    fn sound(&self, policy: &Policy) -> u32 {
+        unsafe { sys::sk_sound(*policy) }
     }
-
-    impl From<RunResult> for boundary::RunResult {
-        fn from(result: RunResult) -> boundary::RunResult {
-            boundary::RunResult { number: result.number, place: boundary::Place::at(result.place.slot, result.place.used) }
-        }
+    fn start(&self, policy: &Policy, memory: &mut [u8]) -> RunResult {
+        unsafe { sys::sk_start(*policy, memory.as_mut_ptr(), memory.len()) }
+    }
+    fn pend(&self, policy: &Policy, memory: &mut [u8], partition: u32, line: u32) -> u32 {
+        unsafe { sys::sk_pend(*policy, memory.as_mut_ptr(), memory.len(), partition, line) }
+    }
+    fn run(&self, policy: &Policy, memory: &mut [u8], place: Place, ticks: u32) -> RunResult {
+        unsafe { sys::sk_run(*policy, memory.as_mut_ptr(), memory.len(), place, ticks) }
+    }
+    fn reach(&self, policy: &Policy) -> ReachResult {
+        unsafe { sys::sk_reach(*policy) }
+    }
+    fn can_reach(&self, policy: &Policy, from: u32, to: u32) -> Answer {
+        unsafe { sys::sk_can_reach(*policy, from, to) }
+    }
+    fn sheet(&self, policy: &Policy) -> SheetResult {
+        unsafe { sys::sk_sheet(*policy) }
     }
 }
 
-/// A kernel behind the functions of a static library, which have this prefix. Where a condition does not hold, the library is an earlier one without
-/// sk_reach and sk_can_reach, or without sk_sheet: they answer a number that no kernel has.
-macro_rules! linked {
-    ($kernel:ident, $name:literal, $library:literal, $prefix:literal, $place:ty, $result:ty, $reaches:meta, $sheets:meta) => {
-        pub struct $kernel;
+/// The safe crate. What its types shut out, a memory of another length and an unsound record, is refused where they are made: by 9 and 10.
+pub struct Safe;
 
-        const _: () = {
-            // Not bundled into the Rust library, so that link-time optimisation does not look into it.
-            #[link(name = $library, kind = "static", modifiers = "-bundle")]
-            extern "C" {
-                #[link_name = concat!($prefix, "sk_read")]
-                fn sk_read(text: *const u8, text_len: usize) -> ReadResult;
-                #[link_name = concat!($prefix, "sk_sound")]
-                fn sk_sound(policy: Policy) -> u32;
-                #[link_name = concat!($prefix, "sk_start")]
-                fn sk_start(policy: Policy, memory: *mut u8, memory_len: usize) -> $result;
-                #[link_name = concat!($prefix, "sk_pend")]
-                fn sk_pend(policy: Policy, memory: *mut u8, memory_len: usize, partition: u32, line: u32) -> u32;
-                #[link_name = concat!($prefix, "sk_run")]
-                fn sk_run(policy: Policy, memory: *mut u8, memory_len: usize, place: $place, ticks: u32) -> $result;
-                #[cfg($reaches)]
-                #[link_name = concat!($prefix, "sk_reach")]
-                fn sk_reach(policy: Policy) -> ReachResult;
-                #[cfg($reaches)]
-                #[link_name = concat!($prefix, "sk_can_reach")]
-                fn sk_can_reach(policy: Policy, from: u32, to: u32) -> Answer;
-                #[cfg($sheets)]
-                #[link_name = concat!($prefix, "sk_sheet")]
-                fn sk_sheet(policy: Policy) -> SheetResult;
-            }
-
-            // Named here so that a new library is linked anew.
-            const _: &[u8] = include_bytes!(concat!("../../../target/staticlib/lib", $library, ".a"));
-
-            // In each call the pointer and the length are those of one Rust slice, lent for the length of the call.
-            impl Kernel for $kernel {
-                fn name(&self) -> &'static str {
-                    $name
-                }
-                fn read(&self, text: &[u8]) -> ReadResult {
-                    unsafe { sk_read(text.as_ptr(), text.len()) }
-                }
-                fn sound(&self, policy: &Policy) -> u32 {
-                    unsafe { sk_sound(*policy) }
-                }
-                fn start(&self, policy: &Policy, memory: &mut [u8]) -> RunResult {
-                    unsafe { sk_start(*policy, memory.as_mut_ptr(), memory.len()) }.into()
-                }
-                fn pend(&self, policy: &Policy, memory: &mut [u8], partition: u32, line: u32) -> u32 {
-                    unsafe { sk_pend(*policy, memory.as_mut_ptr(), memory.len(), partition, line) }
-                }
-                fn run(&self, policy: &Policy, memory: &mut [u8], place: Place, ticks: u32) -> RunResult {
-                    unsafe { sk_run(*policy, memory.as_mut_ptr(), memory.len(), place.into(), ticks) }.into()
-                }
-                #[cfg($reaches)]
-                fn reach(&self, policy: &Policy) -> ReachResult {
-                    unsafe { sk_reach(*policy) }
-                }
-                #[cfg($reaches)]
-                fn can_reach(&self, policy: &Policy, from: u32, to: u32) -> Answer {
-                    unsafe { sk_can_reach(*policy, from, to) }
-                }
-                #[cfg(not($reaches))]
-                fn reach(&self, _: &Policy) -> ReachResult {
-                    ReachResult::refused(u32::MAX)
-                }
-                #[cfg(not($reaches))]
-                fn can_reach(&self, _: &Policy, _: u32, _: u32) -> Answer {
-                    Answer::refused(u32::MAX)
-                }
-                #[cfg($sheets)]
-                fn sheet(&self, policy: &Policy) -> SheetResult {
-                    unsafe { sk_sheet(*policy) }
-                }
-                #[cfg(not($sheets))]
-                fn sheet(&self, _: &Policy) -> SheetResult {
-                    SheetResult::refused(u32::MAX)
-                }
-            }
-        };
-    };
+fn admit<'m>(policy: &Policy, memory: &'m mut [u8]) -> Result<(separation_kernel::Policy, &'m mut Memory), u32> {
+    let memory = <&mut Memory>::try_from(memory).map_err(|_| 9_u32)?;
+    Ok((safe(policy)?, memory))
 }
 
-linked!(Archive, "archive", "boundary", "", Place, RunResult, all(), all());
+fn safe(policy: &Policy) -> Result<separation_kernel::Policy, u32> {
+    separation_kernel::Policy::from_record(*policy).map_err(Refusal::number)
+}
 
-#[cfg(feature = "before-counts")]
-linked!(Before, "before", "before", "before_", Place, RunResult, all(), all());
+fn number(answer: Result<(), u32>) -> u32 {
+    answer.err().unwrap_or(0)
+}
 
-#[cfg(all(feature = "before", not(feature = "before-counts")))]
-linked!(Before, "before", "before", "before_", uncounted::Place, uncounted::RunResult, feature = "before-reaches", feature = "before-sheets");
+impl Kernel for Safe {
+    fn name(&self) -> &'static str {
+        "safe"
+    }
+    fn read(&self, text: &[u8]) -> ReadResult {
+        match separation_kernel::Policy::read(text) {
+            Ok(policy) => accepted(*policy.record()),
+            Err(refusal) => refused(refusal.number(), refusal.line().unwrap_or(0)),
+        }
+    }
+    fn sound(&self, policy: &Policy) -> u32 {
+        safe(policy).is_ok() as u32
+    }
+    fn start(&self, policy: &Policy, memory: &mut [u8]) -> RunResult {
+        match admit(policy, memory) {
+            Ok((policy, memory)) => RunResult { number: 0, place: policy.start(memory).into() },
+            Err(number) => RunResult { number, place: Place::FIRST },
+        }
+    }
+    fn pend(&self, policy: &Policy, memory: &mut [u8], partition: u32, line: u32) -> u32 {
+        number(admit(policy, memory).and_then(|(policy, memory)| policy.pend(memory, partition, line).map_err(Refusal::number)))
+    }
+    fn run(&self, policy: &Policy, memory: &mut [u8], place: Place, ticks: u32) -> RunResult {
+        let run = admit(policy, memory).and_then(|(policy, memory)| policy.run(memory, place.into(), ticks).map_err(Refusal::number));
+        match run {
+            Ok(place) => RunResult { number: 0, place: place.into() },
+            Err(number) => RunResult { number, place },
+        }
+    }
+    fn reach(&self, policy: &Policy) -> ReachResult {
+        let masks = |reach: separation_kernel::Reach| std::array::from_fn(|t| reach.sources(t as u32).unwrap_or_default().mask());
+        safe(policy).map_or_else(ReachResult::refused, |policy| ReachResult { number: 0, sources: masks(policy.reach()) })
+    }
+    fn can_reach(&self, policy: &Policy, from: u32, to: u32) -> Answer {
+        let answer = safe(policy).and_then(|policy| policy.can_reach(from, to).map_err(Refusal::number));
+        answer.map_or_else(Answer::refused, |yes| Answer { number: 0, yes: yes.into() })
+    }
+    fn sheet(&self, policy: &Policy) -> SheetResult {
+        let Ok(policy) = safe(policy) else { return SheetResult::refused(10) };
+        let share = |p: usize| policy.sheet().share(p as u32);
+        let ticks = std::array::from_fn(|p| share(p).map_or(0, |share| share.ticks));
+        SheetResult { number: 0, ticks, silence: std::array::from_fn(|p| share(p).map_or(0, |share| share.silence)) }
+    }
+}

@@ -3,6 +3,8 @@
 
 #[cfg(feature = "archive")]
 pub mod archive;
+#[cfg(feature = "before")]
+pub mod before;
 pub mod boundary;
 pub mod compare;
 pub mod generate;

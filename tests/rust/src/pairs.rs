@@ -1,6 +1,6 @@
 //! The test of separation: pairs of memories and call lists, as demand 3 has them.
 
-use crate::boundary::{Kernel, Place, Policy};
+use crate::boundary::{Kernel, Place, Policy, RecordExt};
 use crate::compare::perform;
 use crate::generate::lists::{count, place, Call};
 use crate::generate::memories::memory;

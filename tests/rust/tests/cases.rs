@@ -1,6 +1,6 @@
 //! The cases of the scope document and of the change requests, on the reference and on each kernel.
 
-use separation::boundary::{Answer, Kernel, Place, Policy, ReachResult, ReadResult, RunResult, SheetResult, MEMORY, RECORD};
+use separation::boundary::{Kernel, Place, PlaceExt, Policy, RecordExt, RunResult, MEMORY};
 use separation::compare::text_difference;
 use separation::generate::mutations::{join, split};
 use separation::generate::numbers::{is_place, rewrite};
@@ -9,7 +9,6 @@ use separation::generate::texts::{hexadecimal_text_of, text, text_of};
 use separation::random::Random;
 use separation::reference::{report, SAVE};
 use separation::{accepted, demonstration, each, kernels, refused, show};
-use std::mem::offset_of;
 
 /// Start, some bytes put into memory, ticks; the memory and the result.
 fn after(kernel: &dyn Kernel, put: &[(usize, &[u8])], ticks: u32) -> (Vec<u8>, RunResult) {
@@ -22,38 +21,6 @@ fn after(kernel: &dyn Kernel, put: &[(usize, &[u8])], ticks: u32) -> (Vec<u8>, R
     let result = kernel.run(&policy, &mut memory, Place::FIRST, ticks);
     assert_eq!(result.number, 0);
     (memory, result)
-}
-
-#[test]
-fn types_have_the_layout_of_c() {
-    assert_eq!(std::mem::size_of::<Policy>(), RECORD);
-    assert_eq!(std::mem::size_of::<ReadResult>(), 444);
-    assert_eq!((std::mem::size_of::<Place>(), offset_of!(Place, used), offset_of!(Place, count)), (12, 4, 8));
-    assert_eq!((std::mem::size_of::<RunResult>(), offset_of!(RunResult, place)), (16, 4));
-    assert_eq!((std::mem::size_of::<ReachResult>(), offset_of!(ReachResult, sources)), (132, 4));
-    assert_eq!((std::mem::size_of::<Answer>(), offset_of!(Answer, yes)), (8, 4));
-    assert_eq!((std::mem::size_of::<SheetResult>(), offset_of!(SheetResult, ticks), offset_of!(SheetResult, silence)), (68, 4, 36));
-    // Each entry begins where the one before ends.
-    let entries = [
-        (offset_of!(Policy, segments), 1),
-        (offset_of!(Policy, partitions), 1),
-        (offset_of!(Policy, slots), 1),
-        (offset_of!(Policy, unused), 1),
-        (offset_of!(Policy, base), 64),
-        (offset_of!(Policy, size), 64),
-        (offset_of!(Policy, code), 8),
-        (offset_of!(Policy, save), 8),
-        (offset_of!(Policy, slot_partition), 32),
-        (offset_of!(Policy, slot_ticks), 64),
-        (offset_of!(Policy, reads), 32),
-        (offset_of!(Policy, writes), 32),
-        (offset_of!(Policy, sources), 128),
-    ];
-    let end = entries.iter().fold(0, |end, &(at, length)| {
-        assert_eq!(at, end);
-        end + length
-    });
-    assert_eq!(end, RECORD);
 }
 
 #[test]

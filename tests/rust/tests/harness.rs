@@ -1,6 +1,6 @@
 //! The tests' own tools: what they generate is what they say, differences are found and made short, and leaky kernels are caught.
 
-use separation::boundary::{Kernel, Place, Policy, ReadResult, RunResult, MEMORY};
+use separation::boundary::{Kernel, Place, Policy, ReadResult, RecordExt, RunResult, MEMORY};
 use separation::compare::{list_difference, record_difference, text_difference, text_gave, text_gives};
 use separation::generate::lists::{list, Call};
 use separation::generate::mutations::split;

@@ -1,6 +1,6 @@
 //! Change request S-6: rights and flows as masks, on the reference and on each kernel.
 
-use separation::boundary::{Kernel, Place, Policy, RunResult, MEMORY};
+use separation::boundary::{Kernel, Place, PlaceExt, Policy, RecordExt, RunResult, MEMORY};
 use separation::compare::{bytes_sound, record_difference, text_difference, text_gives};
 use separation::generate::policies::{longest, policy, Shape, DEMONSTRATION};
 use separation::generate::records::near;

@@ -1,7 +1,7 @@
 //! Change request S-7: "for each partition, its ticks in one round and the longest stretch of ticks in a row, going round the end, in which it isn't
 //! current", on the reference and on each kernel.
 
-use separation::boundary::{Kernel, Place, Policy, SheetResult, MEMORY};
+use separation::boundary::{Kernel, Place, PlaceExt, Policy, SheetResult, MEMORY};
 use separation::compare::{broken_law, moves_too_far, sheet_difference, text_gives};
 use separation::generate::policies::{longest, policy, Shape, DEMONSTRATION};
 use separation::generate::schedules::{near, of_sort, pair, put, record, spoil, Sort, Ticks, SORTS, TICKS};

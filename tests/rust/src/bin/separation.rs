@@ -2,7 +2,7 @@
 //!
 //!     separation [--seed N] [--pairs N]
 
-use separation::boundary::Kernel;
+use separation::boundary::{Kernel, RecordExt};
 use separation::generate::policies::{policy, Shape};
 use separation::kernels;
 use separation::leaky::{Leak, Leaky, LEAKS};

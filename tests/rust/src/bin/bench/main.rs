@@ -10,7 +10,7 @@ mod timed;
 
 use cases::{BESIDE, BESIDE_AIM, CASES, DEMONSTRATION, ONE_LINE};
 use instructions::SAYS_NOTHING;
-use separation::boundary::{Answer, Kernel};
+use separation::boundary::{Answer, Kernel, RecordExt};
 use separation::generate::policies::{full_in_hexadecimal, longest};
 use separation::generate::texts::{hexadecimal_text_of, text_of};
 use separation::generate::workloads::{chain, few_flows, in_no_order, in_order, policy_of};
@@ -22,7 +22,7 @@ use timed::{min_and_median, Timed};
 #[cfg(feature = "archive")]
 use separation::archive::Archive as Proved;
 #[cfg(feature = "before")]
-use separation::archive::Before;
+use separation::before::Before;
 #[cfg(not(feature = "archive"))]
 use separation::reference::Reference as Proved;
 
