@@ -10,4 +10,5 @@ mod row;
 fn main() {
     file::check_file(b"POLICY.md");
     file::check_file(b"PROGRAMMING.md");
+    file::check_file(b"POLICIES.md");
 }

@@ -1,6 +1,7 @@
 // A block of lines, obeyed one after another on a memory of zeros.
 use crate::file::show_verdict;
 use crate::row::is_answered;
+use crate::row::is_changed;
 use crate::row::stripped;
 use calls::Placed;
 use machine::Place;
@@ -70,6 +71,9 @@ fn check(base: &[u8], memory: &mut [u8], line: &[u8], stand: Stand) -> Stand {
     let place = stand.place;
     if same(first, b"line") {
         return checked(stand, is_answered(base, line));
+    }
+    if same(first, b"without") | same(first, b"with") {
+        return checked(stand, is_changed(base, line, same(first, b"without")));
     }
     if same(first, b"is") {
         return checked(stand, holds(memory, line, false));
