@@ -1,17 +1,17 @@
 //! For the benchmark: an earlier archive of the proved kernel, its functions renamed with the prefix before_. tests/run-benchmark --before makes it.
 
 #[cfg(feature = "before-counts")]
-use crate::boundary as earlier;
+use crate::kernel as earlier;
 #[cfg(not(feature = "before-sheets"))]
-use crate::boundary::Refused;
-use crate::boundary::{Answer, Kernel, Place, Policy, ReachResult, ReadResult, RunResult, SheetResult};
+use crate::kernel::Refused;
+use crate::kernel::{Answer, Kernel, Place, Policy, ReachResult, ReadResult, RunResult, SheetResult};
 #[cfg(not(feature = "before-counts"))]
 use uncounted as earlier;
 
 /// The place and the result before version 3.0, without a count.
 #[cfg(not(feature = "before-counts"))]
 mod uncounted {
-    use crate::boundary::{self, PlaceExt};
+    use crate::kernel::{self, PlaceExt};
 
     #[repr(C)]
     #[derive(Clone, Copy)]
@@ -27,15 +27,15 @@ mod uncounted {
         place: Place,
     }
 
-    impl From<boundary::Place> for Place {
-        fn from(place: boundary::Place) -> Place {
+    impl From<kernel::Place> for Place {
+        fn from(place: kernel::Place) -> Place {
             Place { slot: place.slot, used: place.used }
         }
     }
 
-    impl From<RunResult> for boundary::RunResult {
-        fn from(result: RunResult) -> boundary::RunResult {
-            boundary::RunResult { number: result.number, place: boundary::Place::at(result.place.slot, result.place.used) }
+    impl From<RunResult> for kernel::RunResult {
+        fn from(result: RunResult) -> kernel::RunResult {
+            kernel::RunResult { number: result.number, place: kernel::Place::at(result.place.slot, result.place.used) }
         }
     }
 }

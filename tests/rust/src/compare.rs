@@ -6,8 +6,8 @@ mod sheet;
 pub use reach::{reach_difference, Wanted, PAST, REACH_CASES};
 pub use sheet::{broken_law, moves_too_far, sheet_difference, WantedSheet, SHEET_CASES};
 
-use crate::boundary::{Kernel, Place, Policy, RecordExt, MEMORY};
 use crate::generate::lists::{Call, List, Step};
+use crate::kernel::{Kernel, Place, Policy, RecordExt, MEMORY};
 use crate::reference::bytes::{self, Bytes};
 use crate::reference::{asked, judge, judge_without_16, print, read, run_watched, sound, Event, Reference, OPCODES};
 use std::collections::BTreeMap;

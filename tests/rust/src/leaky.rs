@@ -1,7 +1,7 @@
 //! Kernels that leak on purpose, one way each: the test of separation has to catch every one of them.
 
 use crate::as_reference;
-use crate::boundary::{Kernel, Place, Policy, RecordExt, RunResult, MEMORY};
+use crate::kernel::{Kernel, Place, Policy, RecordExt, RunResult, MEMORY};
 use crate::reference::{self, next_place, tick, Event, COUNTER, STATE};
 
 #[derive(Clone, Copy, PartialEq, Eq, Debug)]

@@ -1,30 +1,30 @@
 //! An independent implementation of the separation kernel, written from the scope document and the change requests alone, and what holds the proved
 //! kernel to it: generators of texts, records, programs and call lists, the comparison, and the test of separation over whole runs.
 
-#[cfg(feature = "archive")]
-pub mod archive;
 #[cfg(feature = "before")]
 pub mod before;
-pub mod boundary;
 pub mod compare;
 pub mod generate;
+pub mod kernel;
 pub mod leaky;
 pub mod misled;
 pub mod pairs;
+#[cfg(feature = "archive")]
+pub mod proved;
 pub mod random;
 pub mod reference;
 pub mod show;
 pub mod shrink;
 pub mod tuned;
 
-use boundary::{Kernel, Policy, ReadResult};
+use kernel::{Kernel, Policy, ReadResult};
 
 /// The kernels that are held to the reference: the tuned one, and the proved one where it is linked.
 pub fn kernels() -> Vec<Box<dyn Kernel>> {
     vec![
         Box::new(tuned::Tuned),
         #[cfg(feature = "archive")]
-        Box::new(archive::Archive),
+        Box::new(proved::Archive),
     ]
 }
 

@@ -3,7 +3,7 @@
 pub mod sheet;
 
 use crate::as_reference;
-use crate::boundary::{has, Answer, Kernel, Policy, ReachResult, Refused};
+use crate::kernel::{has, Answer, Kernel, Policy, ReachResult, Refused};
 use crate::tuned::{can_reach, reach, sound};
 use Mistake::*;
 

@@ -1,10 +1,10 @@
 //! The test of separation: pairs of memories and call lists, as demand 3 has them.
 
-use crate::boundary::{Kernel, Place, Policy, RecordExt};
 use crate::compare::perform;
 use crate::generate::lists::{count, place, Call};
 use crate::generate::memories::memory;
 use crate::generate::policies::{policy, Shape};
+use crate::kernel::{Kernel, Place, Policy, RecordExt};
 use crate::random::Random;
 use crate::reference::{readable, sources, writable};
 use crate::{show, shrink};

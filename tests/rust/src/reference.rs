@@ -19,54 +19,54 @@ pub use record::{asked, print, readable, sound, sources, writable, Lines};
 pub use report::{policyreach, policysheet, report, USAGE};
 pub use sheet::sheet;
 
-use crate::boundary::Kernel;
+use crate::kernel::Kernel;
 
 /// Calls of a kernel that answer as the reference does: for this one all, for a wrong one those that it is right in.
 #[macro_export]
 macro_rules! as_reference {
     (read) => {
-        fn read(&self, text: &[u8]) -> $crate::boundary::ReadResult {
+        fn read(&self, text: &[u8]) -> $crate::kernel::ReadResult {
             $crate::reference::read(text)
         }
     };
     (sound) => {
-        fn sound(&self, policy: &$crate::boundary::Policy) -> u32 {
+        fn sound(&self, policy: &$crate::kernel::Policy) -> u32 {
             $crate::reference::sound(policy) as u32
         }
     };
     (start) => {
-        fn start(&self, policy: &$crate::boundary::Policy, memory: &mut [u8]) -> $crate::boundary::RunResult {
+        fn start(&self, policy: &$crate::kernel::Policy, memory: &mut [u8]) -> $crate::kernel::RunResult {
             $crate::reference::start(policy, memory)
         }
     };
     (pend) => {
-        fn pend(&self, policy: &$crate::boundary::Policy, memory: &mut [u8], partition: u32, line: u32) -> u32 {
+        fn pend(&self, policy: &$crate::kernel::Policy, memory: &mut [u8], partition: u32, line: u32) -> u32 {
             $crate::reference::pend(policy, memory, partition, line)
         }
     };
     (run) => {
         fn run(
             &self,
-            policy: &$crate::boundary::Policy,
+            policy: &$crate::kernel::Policy,
             memory: &mut [u8],
-            place: $crate::boundary::Place,
+            place: $crate::kernel::Place,
             ticks: u32,
-        ) -> $crate::boundary::RunResult {
+        ) -> $crate::kernel::RunResult {
             $crate::reference::run(policy, memory, place, ticks)
         }
     };
     (reach) => {
-        fn reach(&self, policy: &$crate::boundary::Policy) -> $crate::boundary::ReachResult {
+        fn reach(&self, policy: &$crate::kernel::Policy) -> $crate::kernel::ReachResult {
             $crate::reference::reach(policy)
         }
     };
     (can_reach) => {
-        fn can_reach(&self, policy: &$crate::boundary::Policy, from: u32, to: u32) -> $crate::boundary::Answer {
+        fn can_reach(&self, policy: &$crate::kernel::Policy, from: u32, to: u32) -> $crate::kernel::Answer {
             $crate::reference::can_reach(policy, from, to)
         }
     };
     (sheet) => {
-        fn sheet(&self, policy: &$crate::boundary::Policy) -> $crate::boundary::SheetResult {
+        fn sheet(&self, policy: &$crate::kernel::Policy) -> $crate::kernel::SheetResult {
             $crate::reference::sheet(policy)
         }
     };

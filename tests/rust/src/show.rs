@@ -1,7 +1,7 @@
 //! Writes texts, memories and lists so that they can be typed in again.
 
-use crate::boundary::{Place, Policy, MEMORY};
 use crate::generate::lists::{Call, List};
+use crate::kernel::{Place, Policy, MEMORY};
 use crate::reference::{print, sound};
 
 /// A text with its tabs and other bytes written out.

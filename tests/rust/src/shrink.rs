@@ -1,7 +1,7 @@
 //! Makes a failing input shorter as long as it still fails (delta debugging).
 
-use crate::boundary::{Policy, MEMORY};
 use crate::generate::lists::{Call, List};
+use crate::kernel::{Policy, MEMORY};
 use crate::reference::{judge, print};
 
 /// Drops parts of a list, large ones first, while the rest still fails.

@@ -11,7 +11,7 @@ pub use reader::read;
 pub use record::sound;
 pub use sheet::sheet;
 
-use crate::boundary::{Answer, Kernel, Place, Policy, ReachResult, ReadResult, RunResult, SheetResult, MEMORY};
+use crate::kernel::{Answer, Kernel, Place, Policy, ReachResult, ReadResult, RunResult, SheetResult, MEMORY};
 
 pub struct Tuned;
 

@@ -1,10 +1,10 @@
 //! The safe crate of the bindings, held to the reference on random texts, records and call lists.
 #![cfg(feature = "archive")]
 
-use separation::archive::Safe;
 use separation::compare::{list_difference, reach_difference, record_difference, sheet_difference, text_difference};
 use separation::generate::policies::{full_in_hexadecimal, longest, DEMONSTRATION};
 use separation::generate::{graphs, lists, records, schedules, texts};
+use separation::proved::Safe;
 use separation::random::Random;
 use separation::show;
 

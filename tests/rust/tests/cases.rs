@@ -1,11 +1,11 @@
 //! The cases of the scope document and of the change requests, on the reference and on each kernel.
 
-use separation::boundary::{Kernel, Place, PlaceExt, Policy, RecordExt, RunResult, MEMORY};
 use separation::compare::text_difference;
 use separation::generate::mutations::{join, split};
 use separation::generate::numbers::{is_place, rewrite};
 use separation::generate::policies::{full_in_hexadecimal, longest, policy, Shape, DEMONSTRATION};
 use separation::generate::texts::{hexadecimal_text_of, text, text_of};
+use separation::kernel::{Kernel, Place, PlaceExt, Policy, RecordExt, RunResult, MEMORY};
 use separation::random::Random;
 use separation::reference::{report, SAVE};
 use separation::{accepted, demonstration, each, kernels, refused, show};

@@ -1,9 +1,9 @@
 //! Change request S-8: the count of ticks since Start, and opcode 15, on the reference and on each kernel.
 
-use separation::boundary::{Kernel, Place, Policy, RunResult, MEMORY};
 use separation::compare::list_difference;
 use separation::generate::lists::{count, list};
 use separation::generate::workloads::policy_of;
+use separation::kernel::{Kernel, Place, Policy, RunResult, MEMORY};
 use separation::random::Random;
 use separation::{as_reference, demonstration, each, reference};
 

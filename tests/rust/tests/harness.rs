@@ -1,6 +1,5 @@
 //! The tests' own tools: what they generate is what they say, differences are found and made short, and leaky kernels are caught.
 
-use separation::boundary::{Kernel, Place, Policy, ReadResult, RecordExt, RunResult, MEMORY};
 use separation::compare::{list_difference, record_difference, text_difference, text_gave, text_gives};
 use separation::generate::lists::{list, Call};
 use separation::generate::mutations::split;
@@ -8,6 +7,7 @@ use separation::generate::numbers::worth;
 use separation::generate::policies::{longest, policy, Shape};
 use separation::generate::records::perturb;
 use separation::generate::texts::text;
+use separation::kernel::{Kernel, Place, Policy, ReadResult, RecordExt, RunResult, MEMORY};
 use separation::leaky::{Leaky, LEAKS};
 use separation::pairs::{bytes_of, check, explain, run_pair, tick_pair, tick_pair_by_count};
 use separation::random::Random;

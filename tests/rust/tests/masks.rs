@@ -1,10 +1,10 @@
 //! Change request S-6: rights and flows as masks, on the reference and on each kernel.
 
-use separation::boundary::{Kernel, Place, PlaceExt, Policy, RecordExt, RunResult, MEMORY};
 use separation::compare::{bytes_sound, record_difference, text_difference, text_gives};
 use separation::generate::policies::{longest, policy, Shape, DEMONSTRATION};
 use separation::generate::records::near;
 use separation::generate::texts::{text, text_of};
+use separation::kernel::{Kernel, Place, PlaceExt, Policy, RecordExt, RunResult, MEMORY};
 use separation::random::Random;
 use separation::reference::bytes::{self, Bytes};
 use separation::reference::{sound, Reference};

@@ -1,12 +1,12 @@
 //! Change request S-1: "for each segment, all segments from which a chain of one or more flow lines leads to it", and "can s reach t", on the reference and
 //! on each kernel.
 
-use separation::boundary::{has, Answer, Kernel, Policy, ReachResult, RecordExt};
 use separation::compare::{reach_difference, text_gives, PAST};
 use separation::generate::graphs::{lines, near, record, with_lines, Graph, GRAPHS};
 use separation::generate::policies::{longest, DEMONSTRATION};
 use separation::generate::records;
 use separation::generate::texts::{hexadecimal_text_of, text_of};
+use separation::kernel::{has, Answer, Kernel, Policy, ReachResult, RecordExt};
 use separation::misled::{Misled, Mistake, IN_ROWS, IN_THE_QUESTION, IN_THE_REPORT};
 use separation::random::Random;
 use separation::reference::{policyreach, read, sound, sources, USAGE};

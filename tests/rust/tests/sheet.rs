@@ -1,12 +1,12 @@
 //! Change request S-7: "for each partition, its ticks in one round and the longest stretch of ticks in a row, going round the end, in which it isn't
 //! current", on the reference and on each kernel.
 
-use separation::boundary::{Kernel, Place, PlaceExt, Policy, SheetResult, MEMORY};
 use separation::compare::{broken_law, moves_too_far, sheet_difference, text_gives};
 use separation::generate::policies::{longest, policy, Shape, DEMONSTRATION};
 use separation::generate::schedules::{near, of_sort, pair, put, record, spoil, Sort, Ticks, SORTS, TICKS};
 use separation::generate::texts::{hexadecimal_text_of, text_of};
 use separation::generate::{graphs, records};
+use separation::kernel::{Kernel, Place, PlaceExt, Policy, SheetResult, MEMORY};
 use separation::misled::sheet::{MisledSheet, Wrong, JUMPING, LAWFUL, WRONG};
 use separation::random::Random;
 use separation::reference::{policysheet, sound, Reference};

@@ -1,9 +1,9 @@
 //! Change request S-5: "a flow line into p's save segment must come from a segment of R(p)", on the reference and on each kernel.
 
-use separation::boundary::{Place, PlaceExt, Policy, RecordExt, RunResult, MEMORY};
 use separation::compare::{bytes_sound, text_gives};
 use separation::generate::policies::{policy, Shape, DEMONSTRATION};
 use separation::generate::texts::{hexadecimal_text_of, text, text_of};
+use separation::kernel::{Place, PlaceExt, Policy, RecordExt, RunResult, MEMORY};
 use separation::random::Random;
 use separation::reference::{judge, judge_without_16, readable, Lines};
 use separation::{accepted, each, refused, show};

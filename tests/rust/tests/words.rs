@@ -1,7 +1,7 @@
 //! Change request S-2: opcodes 13 and 14 load and store four bytes at once, on the reference and on each kernel.
 
-use separation::boundary::{Kernel, Place, Policy, MEMORY};
 use separation::generate::workloads::{copy, copy_words, policy_of, programs};
+use separation::kernel::{Kernel, Place, Policy, MEMORY};
 use separation::{demonstration, each};
 
 /// Base and length of each segment, without gaps: code, save, segments of 1 to 5 bytes, one to read, one to write, one without a right.

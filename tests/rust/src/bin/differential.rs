@@ -4,12 +4,12 @@
 //!     differential [--seed N] [--texts N] [--records N] [--graphs N] [--schedules N] [--lists N]
 //!                  [--policycheck PATH] [--policyreach PATH] [--policysheet PATH] [--reports N]
 
-use separation::boundary::{Kernel, Policy, RECORD};
 use separation::compare::{bytes_sound, list_difference, moves_too_far, reach_difference, record_difference, sheet_difference, text_difference};
 use separation::compare::{text_gives, Reached, Wanted, WantedSheet, LIST_CASES, REACH_CASES, SHEET_CASES, TEXT_CASES};
 use separation::generate::arguments::arguments;
 use separation::generate::policies::{full_in_hexadecimal, longest, policy, Shape, DEMONSTRATION};
 use separation::generate::{graphs, lists, numbers, records, schedules, texts};
+use separation::kernel::{Kernel, Policy, RECORD};
 use separation::random::Random;
 use separation::reference::{policyreach, policysheet, report, sound, USAGE};
 use separation::{kernels, show, shrink};

@@ -2,8 +2,8 @@
 //!
 //!     separation [--seed N] [--pairs N]
 
-use separation::boundary::{Kernel, RecordExt};
 use separation::generate::policies::{policy, Shape};
+use separation::kernel::{Kernel, RecordExt};
 use separation::kernels;
 use separation::leaky::{Leak, Leaky, LEAKS};
 use separation::pairs::{check, explain, run_pair, run_pair_under, tick_pair, tick_pair_by_count, Pair};

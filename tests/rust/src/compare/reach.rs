@@ -1,7 +1,7 @@
 //! Who can reach whom: a kernel's report and its answers to many questions, held to the reference.
 
 use super::{text_gave, Reached};
-use crate::boundary::{has, Answer, Kernel, Policy, ReachResult};
+use crate::kernel::{has, Answer, Kernel, Policy, ReachResult};
 use crate::reference::{answer, reach, sound};
 
 /// Numbers that name no segment of any record: past the largest, past the bits of masks, of a byte and of two, and the highest.

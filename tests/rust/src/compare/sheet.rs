@@ -1,7 +1,7 @@
 //! The schedule sheet: a kernel's held to the reference, and to what change request S-7 says of all sheets.
 
 use super::{text_gave, Reached};
-use crate::boundary::{Kernel, Policy, SheetResult};
+use crate::kernel::{Kernel, Policy, SheetResult};
 use crate::reference::sheet;
 
 /// What the reference answers about a record.

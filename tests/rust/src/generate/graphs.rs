@@ -3,7 +3,7 @@
 
 use super::policies::{lay_out, schedule};
 use super::records::perturb;
-use crate::boundary::{has, Policy, RecordExt};
+use crate::kernel::{has, Policy, RecordExt};
 use crate::random::Random;
 
 #[derive(Clone, Copy, PartialEq, Eq, Debug)]

@@ -3,7 +3,7 @@
 use super::memories::memory;
 use super::policies::{policy, Shape};
 use super::records::{one_source, perturb};
-use crate::boundary::{Place, Policy, MEMORY};
+use crate::kernel::{Place, Policy, MEMORY};
 use crate::random::Random;
 
 /// Bytes behind the memory that no call may touch.

@@ -1,7 +1,7 @@
 //! Random memories: programs in the code segments, save segments as Start leaves them or with arbitrary values, anything elsewhere.
 
 use super::programs::program;
-use crate::boundary::{Policy, MEMORY};
+use crate::kernel::{Policy, MEMORY};
 use crate::random::Random;
 use crate::reference::{COUNTER, ENABLED, FAULT, HANDLER, IN_HANDLER, OPCODES, PENDED, RETURN, SAVE, STATE, UNUSED};
 

@@ -1,6 +1,6 @@
 //! Random sound records.
 
-use crate::boundary::{Policy, RecordExt};
+use crate::kernel::{Policy, RecordExt};
 use crate::random::Random;
 use crate::reference::asked;
 

@@ -1,7 +1,7 @@
 //! Random programs that do something: loops, loads and stores of bytes and words, copies from one segment into another, handlers, code that changes
 //! itself, and faults.
 
-use crate::boundary::{Policy, RecordExt, R, W};
+use crate::kernel::{Policy, RecordExt, R, W};
 use crate::random::Random;
 use crate::reference::OPCODES;
 

@@ -1,6 +1,6 @@
 //! Records near the sound ones: one entry or one bit changed, a count out of range, or nothing sound at all.
 
-use crate::boundary::{Policy, RecordExt, RECORD};
+use crate::kernel::{Policy, RecordExt, RECORD};
 use crate::random::Random;
 use crate::reference::{readable, writable};
 

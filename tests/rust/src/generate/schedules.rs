@@ -3,7 +3,7 @@
 
 use super::policies::{policy, Shape};
 use super::records::perturb;
-use crate::boundary::Policy;
+use crate::kernel::Policy;
 use crate::random::Random;
 
 /// Where the slots of one partition stand; the others' stand in no order.

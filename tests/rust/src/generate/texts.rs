@@ -3,7 +3,7 @@
 use super::mutations::{join, mutate, split};
 use super::numbers::{rewrite, written};
 use super::policies::{longest, policy, Shape};
-use crate::boundary::Policy;
+use crate::kernel::Policy;
 use crate::random::Random;
 use crate::reference::print;
 

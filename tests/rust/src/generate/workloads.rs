@@ -1,7 +1,7 @@
 //! The policies and programs of the benchmark.
 
 use super::policies::longest;
-use crate::boundary::{Policy, RecordExt, MEMORY};
+use crate::kernel::{Policy, RecordExt, MEMORY};
 use crate::random::Random;
 use crate::reference;
 

@@ -1,7 +1,7 @@
 //! Kernels whose schedule sheet is wrong, one way each.
 
 use crate::as_reference;
-use crate::boundary::{Kernel, Policy, SheetResult};
+use crate::kernel::{Kernel, Policy, SheetResult};
 use crate::tuned::sheet;
 use Wrong::*;
 

@@ -3,7 +3,7 @@
 
 use super::reader::judge;
 use super::record::Lines;
-use crate::boundary::Policy;
+use crate::kernel::Policy;
 
 /// The bytes of the pairs; the other entries are those of both records.
 #[derive(Clone, PartialEq, Eq, Debug)]

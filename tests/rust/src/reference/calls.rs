@@ -2,7 +2,7 @@
 
 use super::machine::{next_place, tick, Event, PENDED, SAVE};
 use super::record::sound;
-use crate::boundary::{Place, Policy, RunResult, MEMORY};
+use crate::kernel::{Place, Policy, RunResult, MEMORY};
 
 /// "9: memory isn't 16,384 bytes. 10: the record is that of no accepted text."
 fn refused(policy: &Policy, memory: &[u8]) -> Option<u32> {

@@ -1,6 +1,6 @@
 //! One tick: an interrupt taken, one instruction, or an idle step.
 
-use crate::boundary::{Place, Policy, RecordExt, R, W};
+use crate::kernel::{Place, Policy, RecordExt, R, W};
 
 /// "The save segment is 44 bytes, little-endian": offsets in it. The registers r0 to r7 stand at 0 to 31, four bytes each.
 pub const SAVE: usize = 44;

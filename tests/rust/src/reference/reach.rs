@@ -1,7 +1,7 @@
 //! Change request S-1: who can reach whom.
 
 use super::record::{sound, Lines};
-use crate::boundary::{Answer, Policy, ReachResult, RecordExt, Refused};
+use crate::kernel::{Answer, Policy, ReachResult, RecordExt, Refused};
 
 /// "for each segment, all segments from which a chain of one or more flow lines leads to it, ascending, itself too if a chain returns". "Refused: [..] 10;
 /// report empty".

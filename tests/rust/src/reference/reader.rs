@@ -2,7 +2,7 @@
 
 use super::line::{parse, Kind, Line};
 use super::record::Lines;
-use crate::boundary::ReadResult;
+use crate::kernel::ReadResult;
 use crate::{accepted, refused};
 
 /// A refused text: the number, the line, and why (for the count of what the tests have reached).

@@ -1,6 +1,6 @@
 //! The policy record: its lines, rules 6, 7, 8 and 16, sound records, chains of flow lines, and the text of a record.
 
-use crate::boundary::{Policy, RecordExt};
+use crate::kernel::{Policy, RecordExt};
 
 /// What a policy's lines give, line by line, in the order of the text.
 #[derive(Default, Clone, PartialEq, Eq, Debug)]

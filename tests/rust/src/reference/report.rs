@@ -5,7 +5,7 @@ use super::reach::{can_reach, reach};
 use super::reader::read;
 use super::record::{readable, writable};
 use super::sheet::sheet;
-use crate::boundary::{has, Policy};
+use crate::kernel::{has, Policy};
 
 /// "A refused text gives one line: refused, number, line."
 fn refused(number: u32, line: u32) -> String {

@@ -2,7 +2,7 @@
 
 use super::machine::next_place;
 use super::record::sound;
-use crate::boundary::{Place, Policy, Refused, SheetResult};
+use crate::kernel::{Place, Policy, Refused, SheetResult};
 
 /// "a sheet with, for each partition, its ticks in one round and the longest stretch of ticks in a row, going round the end, in which it isn't current".
 /// "Refused: 10, all zeros."

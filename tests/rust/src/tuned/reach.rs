@@ -1,7 +1,7 @@
 //! Who can reach whom, by masks.
 
 use super::record::sound;
-use crate::boundary::{Answer, Policy, ReachResult, Refused};
+use crate::kernel::{Answer, Policy, ReachResult, Refused};
 
 /// Warshall's algorithm: after step k a row has the chains through segments up to k. Row k stays in its own step, so that one pass in place does. All
 /// rows at once, without a branch: those past the last segment are 0 and stay 0.

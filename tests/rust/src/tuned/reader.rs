@@ -1,7 +1,7 @@
 //! Reading a policy in one pass over its bytes: one loop for each kind of line.
 
 use super::record::{flow_missing, save_sources, Roles};
-use crate::boundary::{Policy, ReadResult};
+use crate::kernel::{Policy, ReadResult};
 
 /// The worth of each byte as a hexadecimal digit, 16 where it is none.
 static DIGITS: [u8; 256] = {

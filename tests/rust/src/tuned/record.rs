@@ -1,6 +1,6 @@
 //! Sound records, by masks. Loops over tables go over all entries and have no early end, so that they can be done on many entries at once.
 
-use crate::boundary::Policy;
+use crate::kernel::Policy;
 
 /// What the partitions' lines give: for each partition R(p) as a mask, 0 past the last, and the mask of all save segments.
 pub struct Roles {

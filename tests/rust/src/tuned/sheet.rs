@@ -1,7 +1,7 @@
 //! The schedule sheet, of all partitions at once.
 
 use super::record::sound;
-use crate::boundary::{Policy, Refused, SheetResult};
+use crate::kernel::{Policy, Refused, SheetResult};
 
 /// A number for each partition: eight of 16 bits are one vector, and a round has 32,000 ticks at most.
 type Row = [i16; 8];

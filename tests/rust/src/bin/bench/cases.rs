@@ -1,12 +1,12 @@
 //! The rows of the benchmark.
 
 use crate::timed::Timed;
-use separation::boundary::Policy;
-use separation::boundary::MEMORY;
 use separation::generate::policies::{full_in_hexadecimal, longest};
 use separation::generate::texts::{hexadecimal_text_of, text_of};
 use separation::generate::workloads::{chain, copy, copy_words, few_flows, idle, in_no_order, in_order, in_turn, least, policy_of, programs};
 use separation::generate::workloads::{each_with, COMPUTE};
+use separation::kernel::Policy;
+use separation::kernel::MEMORY;
 
 pub const DEMONSTRATION: &[u8] = include_bytes!("../../../../../policies/demonstration.policy");
 

@@ -10,19 +10,19 @@ mod timed;
 
 use cases::{BESIDE, BESIDE_AIM, CASES, DEMONSTRATION, ONE_LINE};
 use instructions::SAYS_NOTHING;
-use separation::boundary::{Answer, Kernel, RecordExt};
 use separation::generate::policies::{full_in_hexadecimal, longest};
 use separation::generate::texts::{hexadecimal_text_of, text_of};
 use separation::generate::workloads::{chain, few_flows, in_no_order, in_order, policy_of};
+use separation::kernel::{Answer, Kernel, RecordExt};
 use separation::reference;
 use separation::tuned::Tuned;
 use std::collections::BTreeMap;
 use timed::{min_and_median, Timed};
 
-#[cfg(feature = "archive")]
-use separation::archive::Archive as Proved;
 #[cfg(feature = "before")]
 use separation::before::Before;
+#[cfg(feature = "archive")]
+use separation::proved::Archive as Proved;
 #[cfg(not(feature = "archive"))]
 use separation::reference::Reference as Proved;
 

@@ -1,7 +1,7 @@
 //! The measurements, with the kernel's calls bound at compile time.
 
-use separation::boundary::{Kernel, Place, Policy, MEMORY};
 use separation::generate::workloads::{eight, put};
+use separation::kernel::{Kernel, Place, Policy, MEMORY};
 use separation::reference::{ENABLED, HANDLER, PENDED, STATE};
 use std::hint::black_box;
 use std::time::Instant;

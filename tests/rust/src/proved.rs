@@ -1,6 +1,6 @@
 //! The proved kernel, by its bindings for Rust: the boundary's functions themselves, which take all inputs, and the safe crate above them.
 
-use crate::boundary::{Answer, Kernel, Place, Policy, ReachResult, ReadResult, Refused, RunResult, SheetResult};
+use crate::kernel::{Answer, Kernel, Place, Policy, ReachResult, ReadResult, Refused, RunResult, SheetResult};
 use crate::{accepted, refused};
 use separation_kernel::{sys, Memory, Refusal};
 
