@@ -1,6 +1,7 @@
 -- A text over the limit is refused by 1; any other is read line by line.
 use borrow.Author.Needs.{needs}
 use borrow.Author.Tests.{lt-ltb, le-ltb}
+use Rattle.policy.specs.Limits.{single}
 use Rattle.policy.specs.Read.{readBy}
 use Rattle.reader.proofs.read.Statement.{statement}
 use Rattle.reader.proofs.read.Tie as tie
@@ -10,7 +11,7 @@ refused-requires c κs = search needs
 
 returns : tie.Need-returns
 unfolding readBy
-returns c = rw (lt-ltb _ _ (c .before .if1 .taken)) (c .refused .ensures)
+returns c = rw (lt-ltb (single .text) _ (c .before .if1 .taken)) (c .refused .ensures)
 
 read-lines-requires : tie.Need-read-lines-requires
 read-lines-requires c κs = search needs

@@ -2,13 +2,14 @@
 use mathlib.Core.Path.{refl, sym, _∙_}
 use borrow.Author.Needs.{needs}
 use borrow.Author.Tests.{eq-eqb, ne-eqb, not-true, not-false}
+use Rattle.policy.specs.Limits.{single}
 use Rattle.calls.specs.Start.{startOutcome, startAnswer, afterStart}
 use Rattle.kernel.proofs.clear.start.Statement.{statement}
 use Rattle.kernel.proofs.clear.start.Tie as tie
 
 returns : tie.Need-returns
 unfolding startOutcome startAnswer afterStart
-returns c = rw (ne-eqb _ _ (c .if1 .taken)) (refl, refl)
+returns c = rw (ne-eqb _ (single .memory) (c .if1 .taken)) (refl, refl)
 
 passes-test-requires : tie.Need-passes-test-requires
 passes-test-requires c κs = search needs

@@ -6,13 +6,14 @@ use native.Mathlib.Omega.{arith}
 use lib.Pow.{pow-lt}
 use borrow.Author.Needs.{needs}
 use borrow.Author.Tests.{eq-eqb, ne-eqb, le-leb, lt-leb, lt-ltb, le-ltb, not-true, not-false}
-use Rattle.calls.specs.Pend.{pendOutcome, withLine, afterPend}
+use Rattle.policy.specs.Limits.{single}
+use Rattle.calls.specs.Pend.{lastLine, pendOutcome, withLine, afterPend}
 use Rattle.kernel.proofs.line.pend.Statement.{statement}
 use Rattle.kernel.proofs.line.pend.Tie as tie
 
 returns : tie.Need-returns
 unfolding pendOutcome afterPend
-returns c = rw (ne-eqb _ _ (c .if1 .taken)) (refl, refl)
+returns c = rw (ne-eqb _ (single .memory) (c .if1 .taken)) (refl, refl)
 
 cast-partitions : tie.Need-cast-partitions
 cast-partitions c = search needs
@@ -44,7 +45,7 @@ returns-4 c =
       eq-eqb _ _ (sound .before .before .before .before .before .if1 .left),
       sym (sound .before .passes-test .ensures) ∙ not-false _ (sound .if2 .left),
       lt-leb _ _ (c .before .if3 .left),
-      lt-ltb _ _ (c .if4 .taken),
+      lt-ltb lastLine _ (c .if4 .taken),
     )
     (refl, refl)
 

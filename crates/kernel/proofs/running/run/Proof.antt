@@ -2,14 +2,15 @@
 use mathlib.Core.Path.{refl, sym, _∙_}
 use borrow.Author.Needs.{needs}
 use borrow.Author.Tests.{eq-eqb, ne-eqb, lt-ltb, le-ltb, not-true, not-false}
+use Rattle.policy.specs.Limits.{single}
 use Rattle.machine.specs.Place.{isPlace}
-use Rattle.calls.specs.Run.{runOutcome, afterRun, runAnswer}
+use Rattle.calls.specs.Run.{mostTicksOfRun, runOutcome, afterRun, runAnswer}
 use Rattle.kernel.proofs.running.run.Statement.{statement}
 use Rattle.kernel.proofs.running.run.Tie as tie
 
 returns : tie.Need-returns
 unfolding runOutcome afterRun runAnswer
-returns c = rw (ne-eqb _ _ (c .if1 .taken)) (refl, refl)
+returns c = rw (ne-eqb _ (single .memory) (c .if1 .taken)) (refl, refl)
 
 passes-test-requires : tie.Need-passes-test-requires
 passes-test-requires c κs = search needs
@@ -44,7 +45,7 @@ returns-4 c =
       eq-eqb _ _ (t .before .before .before .if1 .left),
       sym (t .before .passes-test .ensures) ∙ not-false _ (t .if2 .left),
       sym (c .before .before .is-place .ensures) ∙ not-false _ (c .before .if3 .left),
-      lt-ltb _ _ (c .if4 .taken),
+      lt-ltb mostTicksOfRun _ (c .if4 .taken),
     )
     (refl, refl)
 
