@@ -3,7 +3,7 @@ use Rattle.std.specs.Prelude.{ℕ, ◌+◌, ◌<◌, ◌≤◌, ◌≡◌, false
 use Rattle.bits.specs.Masks.{has}
 use Rattle.text.specs.declared.line.Line.{Line}
 use Rattle.text.specs.declared.line.Line.TheVariants.{Bad, Segment, Partition, Right, Flow, Slot}
-use Rattle.policy.specs.Limits.{Limits}
+use Rattle.policy.specs.Limits.{single}
 use Rattle.policy.specs.View.{View}
 use Rattle.policy.specs.Order.{id_skips}
 use Rattle.policy.specs.Range.{out_of_range}
@@ -66,9 +66,9 @@ right_on (Flow from to) = 0
 right_on (Slot partition ticks) = 0
 
 -- A line that 3 and 4 let pass, and a record within the limits: what the line adds then has a place there.
-pub record Fits (limits : Limits) (v : View) (line : Line) : Type 0 where
-  pub in_range : out_of_range limits v line ≡ false
+pub record Fits (v : View) (line : Line) : Type 0 where
+  pub in_range : out_of_range single v line ≡ false
   pub next_id : id_skips v line ≡ false
-  pub few_segments : v.segments ≤ limits.segments
-  pub few_partitions : v.partitions ≤ limits.partitions
-  pub few_slots : v.slots ≤ limits.slots
+  pub few_segments : v.segments ≤ single.segments
+  pub few_partitions : v.partitions ≤ single.partitions
+  pub few_slots : v.slots ≤ single.slots

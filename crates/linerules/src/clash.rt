@@ -2,6 +2,7 @@
 // or code of one and save of the same or another; a right names a save segment; a flow goes from a segment to itself".
 ghost use Rattle.std.specs.Prelude.{◌+◌, ◌<◌, ◌≤◌, ◌≡◌, []};
 ghost use Rattle.policy.specs.Clash.{overlaps_earlier, shares_earlier, partition_clashes, clashes};
+ghost use Rattle.policy.specs.Limits.{single};
 ghost use Rattle.linerules.specs.Parts.{Barred, EndedBy, end_of, placed, right_on};
 
 use bits::has_bit;
@@ -83,12 +84,12 @@ pub(crate) fn clashes<'a>(
     sizes: &'a [u16],
     codes: &'a [u8],
     saves: &'a [u8],
-    barred: u64,
+    barred: u32,
     ended: u32,
     line: Line,
 ) -> bool
-    requires line_bound { end_of line < 4294967296 }
-    requires line_bound_2 { right_on line < 64 }
+    requires line_bound { end_of line ≤ single.memory }
+    requires line_bound_2 { right_on line < single.segments }
     requires barred { Barred saves.now partitions barred }
     requires ended_by { EndedBy bases.now sizes.now segments ended }
     ensures { result ≡
@@ -114,7 +115,7 @@ pub(crate) fn clashes<'a>(
         Line::Partition { code, save, .. } => partition_clashes(
             partitions, sizes, codes, saves, code, save,
         ),
-        Line::Right { segment, .. } => has_bit(barred, segment),
+        Line::Right { segment, .. } => has_bit(barred as u64, segment),
         Line::Flow { from, to } => from == to,
         Line::Slot { .. } => false,
     }

@@ -1,29 +1,23 @@
 // Rules 4 and 5 for an entry of a record: whether a line that they let pass, after those before it, would put it there.
 ghost use Rattle.std.specs.Prelude.{◌≡◌, []};
+ghost use Rattle.policy.specs.Limits.{single};
 ghost use Rattle.policy.specs.Sound.{good_segment, good_partition};
 ghost use Rattle.linerules.specs.Parts.{EndedBy, placed};
 
 use crate::clash::{overlaps_earlier, partition_clashes};
 use crate::range::{partition_outside, segment_outside};
 use bytes::{byte_at, half_at};
-use policy::Limits;
 
 // The segments before have ended at `end`. One that begins there or later overlaps none of them, so segments in the order
 // of their bases need one test each.
-pub fn segment_passes<'a>(
-    limits: Limits,
-    bases: &'a [u16],
-    sizes: &'a [u16],
-    i: u8,
-    end: u32,
-) -> bool
+pub fn segment_passes<'a>(bases: &'a [u16], sizes: &'a [u16], i: u8, end: u32) -> bool
     requires { EndedBy bases.now sizes.now i end }
-    ensures { result ≡ good_segment limits (placed 0 0 bases.now sizes.now [] []) i }
+    ensures { result ≡ good_segment single (placed 0 0 bases.now sizes.now [] []) i }
 {
     let base = half_at(bases, i as usize) as u32;
     let size = half_at(sizes, i as usize) as u32;
     // Left early, so that the loop below is known to stay inside the arrays, and many entries are tested at once.
-    if segment_outside(limits, i, base, size) {
+    if segment_outside(i, base, size) {
         return false;
     }
     if end <= base {
@@ -33,7 +27,6 @@ pub fn segment_passes<'a>(
 }
 
 pub fn partition_passes<'a>(
-    limits: Limits,
     sizes: &'a [u16],
     codes: &'a [u8],
     saves: &'a [u8],
@@ -41,13 +34,13 @@ pub fn partition_passes<'a>(
     i: u8,
 ) -> bool
     ensures { result ≡
-        good_partition limits
+        good_partition single
         (placed segments 0 [] sizes.now codes.now saves.now)
         i }
 {
     let code = byte_at(codes, i as usize) as u32;
     let save = byte_at(saves, i as usize) as u32;
-    if partition_outside(limits, segments, i, code, save) {
+    if partition_outside(segments, i, code, save) {
         return false;
     }
     !partition_clashes(i, sizes, codes, saves, code, save)

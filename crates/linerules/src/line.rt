@@ -1,12 +1,13 @@
 // The first of refusals 2 to 5 that a line meets.
 ghost use Rattle.std.specs.Prelude.{◌≤◌, ◌≡◌};
+ghost use Rattle.policy.specs.Limits.{single};
 ghost use Rattle.policy.specs.Read.{is_bad, line_refusal};
 ghost use Rattle.linerules.specs.Parts.{Barred, EndedBy, part_view};
 
 use crate::clash::clashes;
 use crate::order::out_of_order;
 use crate::range::out_of_range;
-use policy::{Key, Limits, Refusal};
+use policy::{Key, Refusal};
 use text::Line;
 
 fn is_bad(line: Line) -> bool
@@ -25,7 +26,6 @@ fn is_bad(line: Line) -> bool
 // The answer for the n-th line after those that gave these counts and arrays, of which the last had the key before.
 // The save segments so far are the bits of `barred`, and all segments so far have ended at `ended`.
 pub fn line_refusal<'a>(
-    limits: Limits,
     segments: u8,
     partitions: u8,
     slots: u8,
@@ -33,17 +33,17 @@ pub fn line_refusal<'a>(
     size: &'a [u16],
     code: &'a [u8],
     save: &'a [u8],
-    barred: u64,
+    barred: u32,
     ended: u32,
     before: Key,
     line: Line,
     n: u32,
 ) -> Refusal
-    requires segments_le_segments { (segments ≤ limits.segments) × (limits.segments ≤ 64) }
+    requires segments_le_segments { segments ≤ single.segments }
     requires barred { Barred save.now partitions barred }
     requires ended_by { EndedBy base.now size.now segments ended }
     ensures { result ≡
-        line_refusal limits n before
+        line_refusal single n before
         (part_view
         segments
         partitions
@@ -60,7 +60,7 @@ pub fn line_refusal<'a>(
     if out_of_order(before, segments, partitions, line) {
         return Refusal::OutOfOrder(n);
     }
-    if out_of_range(limits, segments, partitions, slots, line) {
+    if out_of_range(segments, partitions, slots, line) {
         return Refusal::OutOfRange(n);
     }
     if clashes(

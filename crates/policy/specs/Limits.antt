@@ -1,10 +1,13 @@
 -- The limits of a head. The rules take them as a parameter; a head with other limits is another value.
 use Rattle.std.specs.Prelude.{ℕ}
-use Rattle.policy.specs.declared.limits.Limits as declared
 
--- The code's own struct (src/limits.rt): the numbers of segments, partitions and slots, the bytes of memory and of a policy text.
-abbrev pub Limits : Type 0
-Limits = declared.Limits
+pub record Limits : Type 0 where
+  pub segments : ℕ
+  pub partitions : ℕ
+  pub slots : ℕ
+  -- the bytes of memory, and of a policy text
+  pub memory : ℕ
+  pub text : ℕ
 
 -- 00: "16,384 bytes of memory, up to 8 partitions, up to 32 memory segments, and a fixed schedule of at most 32 slots";
 -- 01, refusal 1: "over 16,384 bytes"

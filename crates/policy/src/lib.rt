@@ -4,7 +4,6 @@ mod limits;
 mod record;
 
 pub use limits::{
-    LONGEST_SEGMENT, Limits, MEMORY, MOST_TICKS, PARTITIONS, SAVE_SIZE, SEGMENTS, SINGLE, SLOTS,
-    TEXT,
+    LONGEST_SEGMENT, MEMORY, MOST_TICKS, PARTITIONS, SAVE_SIZE, SEGMENTS, SLOTS, TEXT,
 };
 pub use record::{Asked, Key, Policy, Reading, Refusal};

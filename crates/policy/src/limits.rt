@@ -16,22 +16,3 @@ pub const LONGEST_SEGMENT: u32 = 4096;
 pub const SAVE_SIZE: usize = 44;
 // The most ticks of a slot.
 pub const MOST_TICKS: u32 = 1000;
-
-// A head's limits: the most segments, partitions and slots, the bytes of memory, and the most of a policy text. Each head is one value; the
-// rules, in definitions and code, take them as a parameter.
-#[derive(Drop)]
-pub struct Limits {
-    pub segments: u8,
-    pub partitions: u8,
-    pub slots: u8,
-    pub memory: u32,
-    pub text: u32,
-}
-
-pub const SINGLE: Limits = Limits {
-    segments: 32,
-    partitions: 8,
-    slots: 32,
-    memory: 16384,
-    text: 16384,
-};

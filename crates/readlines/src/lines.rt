@@ -7,10 +7,10 @@ ghost use Rattle.policy.specs.Tables.{zeros};
 ghost use Rattle.policy.specs.Draft.{begun};
 ghost use Rattle.policy.specs.Read.{answer, read_lines};
 
-use crate::rights::{with_bit, with_read, with_write};
+use crate::rights::{with_read, with_write};
 use bits::with_low_bit;
 use linerules::{is_accepted, key_of, line_refusal, zeros};
-use policy::{Key, Policy, Reading, Refusal, SINGLE};
+use policy::{Key, Policy, Reading, Refusal};
 use text::{Cursor, Line};
 use wholerules::record_refusal;
 
@@ -46,7 +46,7 @@ pub fn read_lines(text: &[u8]) -> Reading
         second: 0,
     };
     // The save segments so far, and where the segments so far have ended: a line is tested against these at once.
-    let mut barred: u64 = 0;
+    let mut barred: u32 = 0;
     let mut ended: u32 = 0;
     let mut c = Cursor { at: 0, line: 1 };
     while c.at < text.len() {
@@ -54,7 +54,6 @@ pub fn read_lines(text: &[u8]) -> Reading
         let read = lexer::line_from(text, c.at, n);
         let line = read.line;
         let refusal = line_refusal(
-            SINGLE,
             policy.segments,
             policy.partitions,
             policy.slots,
@@ -83,7 +82,7 @@ pub fn read_lines(text: &[u8]) -> Reading
                 policy.code[id as usize] = code as u8;
                 policy.save[id as usize] = save as u8;
                 policy.partitions = (id + 1) as u8;
-                barred = with_bit(barred, save);
+                barred = with_low_bit(barred, save);
             }
             Line::Right {
                 partition,

@@ -1,17 +1,9 @@
-// Masks with one bit more: of the save segments after a partition line, and of a partition's rights after a right line.
+// A partition's masks after a right line.
 ghost use Rattle.std.specs.Prelude.{◌<◌, ◌≡◌, cond};
 ghost use Rattle.bits.specs.Masks.{with_bit};
 ghost use Rattle.policy.specs.Modes.{gives_read, gives_write};
 
-use bits::{with_low_bit, worth};
-
-// A mask of 64 bits with one bit more.
-pub(crate) fn with_bit(mask: u64, s: u32) -> u64
-    requires { s < 64 }
-    ensures { result ≡ with_bit mask s }
-{
-    mask | worth(s)
-}
+use bits::with_low_bit;
 
 // The read mask: bit s is set where the letters have r.
 pub(crate) fn with_read(mask: u32, s: u32, mode: u32) -> u32

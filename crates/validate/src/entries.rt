@@ -7,7 +7,6 @@ ghost use Rattle.linerules.specs.Parts.{EndedBy, placed};
 
 use bytes::half_at;
 use linerules::{partition_passes, segment_passes};
-use policy::SINGLE;
 
 // Where the segments up to i have ended.
 fn end_after<'a>(base: &'a [u16], size: &'a [u16], i: u8, end: u32) -> u32
@@ -24,7 +23,7 @@ pub(crate) fn segments_good<'a>(base: &'a [u16], size: &'a [u16], segments: u8) 
     let mut end: u32 = 0;
     let mut i = 0;
     while i < segments {
-        if !segment_passes(SINGLE, base, size, i, end) {
+        if !segment_passes(base, size, i, end) {
             return false;
         }
         end = end_after(base, size, i, end);
@@ -45,7 +44,7 @@ pub(crate) fn partitions_good<'a>(
 {
     let mut i = 0;
     while i < partitions {
-        if !partition_passes(SINGLE, size, code, save, segments, i) {
+        if !partition_passes(size, code, save, segments, i) {
             return false;
         }
         i += 1;

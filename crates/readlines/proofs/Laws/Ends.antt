@@ -42,17 +42,17 @@ module _ (t : Tables) (end next : ℕ) (lengths : Lengths single t) (ended : End
   wider : Ended t next
   wider j l = let k = ended j l in omega arith
 
-  ended_with : (line : Line) → Fits single (view_of t) line → end_of line ≤ next → Ended (added t line) next
+  ended_with : (line : Line) → Fits (view_of t) line → end_of line ≤ next → Ended (added t line) next
   unfolding added
   ended_with Bad f own = wider
   ended_with (Segment id base size) f own =
       let here : id ≡ t.segments.count = eqb-true id t.segments.count (not-false _ f.next_id) in
       ended_stored t.segments.base t.segments.size id base size end next lengths.base lengths.size
-      (segment_fits single (view_of t) id base size f).0 (rw here ended) past own
+      (segment_fits (view_of t) id base size f).0 (rw here ended) past own
   ended_with (Partition id code save) f own = wider
   ended_with (Right partition segment mode) f own = wider
   ended_with (Flow from to) f own = wider
   ended_with (Slot partition ticks) f own = wider
 
-  pub ended_more : (line : Line) → Fits single (view_of t) line → end_of line ≤ next → (q : Tables) → q ≡ added t line → Ended q next
+  pub ended_more : (line : Line) → Fits (view_of t) line → end_of line ≤ next → (q : Tables) → q ≡ added t line → Ended q next
   ended_more line f own q e = rw e (ended_with line f own)

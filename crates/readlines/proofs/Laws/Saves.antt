@@ -47,18 +47,18 @@ module _ (saves : List ℕ) (id save mask : ℕ) (long : length saves ≡ 8) (ro
       (ap (eqb s) (sym (stored_at saves id save 8 long room)))
 
 module _ (t : Tables) (mask : ℕ) (lengths : Lengths single t) (are : Saves t mask) where
-  saves_with : (line : Line) → Fits single (view_of t) line → Saves (added t line) (barred_with mask line)
+  saves_with : (line : Line) → Fits (view_of t) line → Saves (added t line) (barred_with mask line)
   unfolding added
   saves_with Bad f = are
   saves_with (Segment id base size) f = are
   saves_with (Partition id code save) f =
       let here : id ≡ t.partitions.count = eqb-true id t.partitions.count (not-false _ f.next_id) in
-      saves_stored t.partitions.save id save mask lengths.save (partition_fits single (view_of t) id code save f).0
+      saves_stored t.partitions.save id save mask lengths.save (partition_fits (view_of t) id code save f).0
       (rw here are)
   saves_with (Right partition segment mode) f = are
   saves_with (Flow from to) f = are
   saves_with (Slot partition ticks) f = are
 
-  pub saves_more : (line : Line) → Fits single (view_of t) line → (next : ℕ) → next ≡ barred_with mask line →
+  pub saves_more : (line : Line) → Fits (view_of t) line → (next : ℕ) → next ≡ barred_with mask line →
       (q : Tables) → q ≡ added t line → Saves q next
   saves_more line f next n q e = rw (e, n) (saves_with line f)

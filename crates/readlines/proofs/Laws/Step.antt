@@ -43,17 +43,16 @@ module _ (text : List ℕ) (tables : Tables) (before : Key) (at n : ℕ) (r : Re
   same_line = ap (λ l. l.line) is_read ∙ line_says text at n
 
   same_refusal : refusal ≡ line_refusal single n before (view_of tables) (line_at text at)
-  same_refusal = is-refusal ∙ sym (part_same single n before tables read.line) ∙ ap (line_refusal single n before (view_of tables)) same_line
+  same_refusal = is-refusal ∙ sym (part_same n before tables read.line) ∙ ap (line_refusal single n before (view_of tables)) same_line
 
   pub step_refused : is_accepted refusal ≡ false → answer single refusal (zeros single) ≡ read_lines single 1 (begun single) (lines_of text)
   step_refused h =
       rw same_refusal
       (stops_refused text tables before at n r inside (sym (ap is_accepted same_refusal) ∙ h))
 
-  pub step_fits : is_accepted refusal ≡ true → Fits single (view_of tables) read.line
+  pub step_fits : is_accepted refusal ≡ true → Fits (view_of tables) read.line
   step_fits h =
-      let f = fine single n before (view_of tables) read.line
-      (sym (ap is_accepted (is-refusal ∙ sym (part_same single n before tables read.line))) ∙ h) in
+      let f = fine single n before (view_of tables) read.line (sym (ap is_accepted (is-refusal ∙ sym (part_same n before tables read.line))) ∙ h) in
       record {
         in_range = f.passing.ranged;
         next_id = id_next before (view_of tables) read.line f.passing.ordered;

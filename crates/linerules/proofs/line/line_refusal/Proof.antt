@@ -1,6 +1,5 @@
 -- The tests stand in the order of the rules, each on the part of the record that it reads.
 use mathlib.Core.Path.{sym, ◌∙◌}
-use native.Mathlib.Omega.{arith}
 use borrow.Author.Rules.{rules}
 use Rattle.linerules.proofs.Laws.Fits.{range_ends, range_names}
 use Rattle.linerules.proofs.Laws.Parts.{line_part}
@@ -33,8 +32,7 @@ returns-3 c =
 clashes-requires : tie.Need-clashes-requires
 clashes-requires c κs =
     let ranged = sym c.before.out_of_range.ensures ∙ c.if3.false in
-    let start = c.before.before.before.before.before.before.before.before.before.before in
-    (omega (arith, range_ends _ _ _ ranged), (range_names _ _ _ ranged start.requires.0.0 start.requires.0.1, (search rules, search rules)))
+    (range_ends _ _ ranged, (range_names _ _ ranged (search rules), (search rules, search rules)))
 
 returns-4 : tie.Need-returns-4
 returns-4 c =

@@ -9,7 +9,6 @@ use borrow.Author.Rules.{rules}
 use borrow.Author.Tests.{not-true, not-false}
 use lib.ListN.{length}
 use Rattle.policy.specs.Draft.{added}
-use Rattle.policy.specs.Limits.{single}
 use Rattle.policy.specs.Order.{key_of}
 use Rattle.policy.specs.Record.{tables_of}
 use Rattle.policy.specs.Tables.{view_of}
@@ -45,7 +44,7 @@ line-from-requires c κs =
 line-refusal-requires : tie.Need-line-refusal-requires invariant-loop decreases-loop
 line-refusal-requires c κs =
     let inv = c.before.before.before.before.before.before.before.before.before.before.before.before.loop.invariant in
-    ((inv.0.kept.counts.segments, omega arith), (inv.1, inv.2))
+    (inv.0.kept.counts.segments, (inv.1, inv.2))
 
 is-accepted-requires : tie.Need-is-accepted-requires invariant-loop decreases-loop
 is-accepted-requires c κs = search rules
@@ -64,8 +63,7 @@ returns c =
 
 -- A line that no rule refuses fits the record.
 fits : (e : tie.Else2 invariant-loop decreases-loop) →
-    Fits single
-    (view_of (tables_of e.before.before.before.before.before.before.before.before.before.before.before.before.before.before.before.loop.policy))
+    Fits (view_of (tables_of e.before.before.before.before.before.before.before.before.before.before.before.before.before.before.before.loop.policy))
     e.before.before.before.before.before.before.before.before.before.before.before.before.line-from.result.line
 fits e =
     let ruled = e.before.before in
@@ -76,23 +74,23 @@ fits e =
 
 segment-in : (c : tie.After-known-told invariant-loop decreases-loop) →
     let g = c.before.line.given.0 in (g.0 < 32) × (g.1.0 < 65536) × (g.1.1.0 < 65536)
-segment-in c = omega (arith, segment_fits single _ _ _ _ (rw c.before.line.given.1 at (fits c.before.before.before)))
+segment-in c = segment_fits _ _ _ _ (rw c.before.line.given.1 at (fits c.before.before.before))
 
 partition-in : (c : tie.After-known-told2 invariant-loop decreases-loop) →
     let g = c.before.line2.given.0 in (g.0 < 8) × (g.1.0 < 32) × (g.1.1.0 < 32)
-partition-in c = omega (arith, partition_fits single _ _ _ _ (rw c.before.line2.given.1 at (fits c.before.before.before)))
+partition-in c = partition_fits _ _ _ _ (rw c.before.line2.given.1 at (fits c.before.before.before))
 
 right-in : (c : tie.After-known-told3 invariant-loop decreases-loop) →
     let g = c.before.line3.given.0 in (g.0 < 8) × (g.1.0 < 32)
-right-in c = omega (arith, right_fits single _ _ _ _ (rw c.before.line3.given.1 at (fits c.before.before.before)))
+right-in c = right_fits _ _ _ _ (rw c.before.line3.given.1 at (fits c.before.before.before))
 
 flow-in : (c : tie.After-known-told4 invariant-loop decreases-loop) →
     let g = c.before.line4.given.0 in (g.0 < 32) × (g.1.0 < 32)
-flow-in c = omega (arith, flow_fits single _ _ _ (rw c.before.line4.given.1 at (fits c.before.before.before)))
+flow-in c = flow_fits _ _ _ (rw c.before.line4.given.1 at (fits c.before.before.before))
 
 slot-in : (c : tie.After-known-told5 invariant-loop decreases-loop) →
     let g = c.before.line5.given.0 in (c.before.before.before.before.before.before.before.before.before.before.before.before.before.before.before.before.before.before.loop.policy.slots < 32) × (g.0 < 8) × (g.1.0 < 65536)
-slot-in c = omega (arith, slot_fits single _ _ _ (rw c.before.line5.given.1 at (fits c.before.before.before)))
+slot-in c = slot_fits _ _ _ (rw c.before.line5.given.1 at (fits c.before.before.before))
 
 enum_told : tie.Need-enum-told invariant-loop decreases-loop
 enum_told c = search rules
@@ -160,8 +158,8 @@ add-policy-2 c = omega (arith, partition-in c)
 cast-policy-10 : tie.Need-overflow-cast-policy-10 invariant-loop decreases-loop
 cast-policy-10 c = omega (arith, partition-in c)
 
-with-bit-requires : tie.Need-with-bit-requires invariant-loop decreases-loop
-with-bit-requires c κs = omega (arith, partition-in c)
+with-low-bit-requires : tie.Need-with-low-bit-requires invariant-loop decreases-loop
+with-low-bit-requires c κs = (partition-in c).2
 
 enum-known-line-3 : tie.Need-enum-known-line-3 invariant-loop decreases-loop
 enum-known-line-3 c = search rules
@@ -211,8 +209,8 @@ mul-with-low-bit c = omega (arith, flow-in c)
 element-copy-out-with-low-bit : tie.Need-element-copy-out-with-low-bit invariant-loop decreases-loop
 element-copy-out-with-low-bit c = omega (arith, flow-in c)
 
-with-low-bit-requires : tie.Need-with-low-bit-requires invariant-loop decreases-loop
-with-low-bit-requires c κs = (flow-in c.before).0
+with-low-bit-requires-2 : tie.Need-with-low-bit-requires-2 invariant-loop decreases-loop
+with-low-bit-requires-2 c κs = (flow-in c.before).0
 
 mul-policy-5 : tie.Need-overflow-mul-policy-5 invariant-loop decreases-loop
 mul-policy-5 c = omega (arith, flow-in c.before.before)
@@ -360,7 +358,7 @@ read-lines-spec =
     element-write-policy-4
     add-policy-2
     cast-policy-10
-    with-bit-requires
+    with-low-bit-requires
     enum-known-line-3
     cast-p
     mul-with-read
@@ -377,7 +375,7 @@ read-lines-spec =
     cast_t
     mul-with-low-bit
     element-copy-out-with-low-bit
-    with-low-bit-requires
+    with-low-bit-requires-2
     mul-policy-5
     element-write-policy-7
     enum-known-line-5
