@@ -1,5 +1,7 @@
 // Masks of bits: bit s is worth 2 to the power s. A mask is a number of 64 bits; arrays of narrower masks are widened
 // once, so that one code serves every width.
+#![tactic(auto)]
+
 mod bit;
 mod set;
 mod wide;

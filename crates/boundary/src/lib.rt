@@ -1,5 +1,7 @@
 // The kernel for programs in C: each function is a thin call, with the same equation and no `requires`.
 // include/separation_kernel.h declares them.
+#![tactic(auto)]
+
 ghost use Rattle.std.specs.Prelude.{◌≡◌, cond};
 ghost use Rattle.policy.specs.Limits.{single};
 ghost use Rattle.policy.specs.Read.{read_of};

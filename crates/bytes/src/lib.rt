@@ -1,5 +1,7 @@
 // Bytes and halves that are lent: an entry or 0 past the end, and numbers of two and of four bytes, lowest byte first.
 // Every function is total but two, whose words must be there.
+#![tactic(auto)]
+
 mod entry;
 mod number;
 

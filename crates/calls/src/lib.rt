@@ -1,5 +1,7 @@
 // The operations Start, Pend and Run: what they answer, and in specs/ what they do, alone and in lists. No code that
 // runs: the crate above proves its code against these definitions.
+#![tactic(auto)]
+
 use machine::Place;
 
 // What an operation answers: that it acted, or why it refused.

@@ -1,1 +1,2 @@
 // Document 01's marked cases, as theorems about the definitions.
+#![tactic(auto)]

@@ -1,4 +1,6 @@
 // Four bytes of code to an instruction: the opcode's registers are tested against a table, then it is made.
+#![tactic(auto)]
+
 ghost use Rattle.std.specs.Prelude.{◌≡◌, ◌+◌, ◌*◌, get_or};
 ghost use Rattle.machine.specs.Decode.{last_opcode, register_masks, operands_fit, instruction_of, decode_of, fetched};
 

@@ -1,4 +1,6 @@
 // The digits of a number in a policy text: decimal ones, or hexadecimal ones past 0x.
+#![tactic(auto)]
+
 mod number;
 mod scan;
 

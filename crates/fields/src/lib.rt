@@ -1,4 +1,6 @@
 // One field of a policy text's line, read by value at a place.
+#![tactic(auto)]
+
 mod field;
 mod scan;
 mod word;

@@ -1,5 +1,7 @@
 // The operations Start, Pend and Run on any memory and any numbers: each makes its tests in the order of the refusals,
 // and acts where none applies.
+#![tactic(auto)]
+
 mod answer;
 mod clear;
 mod line;

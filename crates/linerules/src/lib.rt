@@ -1,4 +1,6 @@
 // The rules for one line of a policy text, refusals 3, 4 and 5 of document 01, and 4 and 5 for an entry of a record.
+#![tactic(auto)]
+
 mod blank;
 mod clash;
 mod entry;

@@ -1,5 +1,7 @@
 // What each instruction does to the bytes of a save segment, lent as `&mut [u8]`: all of it but for loads and stores. Each
 // is handed the counter, and hands back the counter after it; the bytes hold it too.
+#![tactic(auto)]
+
 ghost use Rattle.std.specs.Prelude.{◌≡◌, ◌+◌, ◌-◌, ◌%◌, ◌<◌, ◌≤◌, length};
 ghost use Rattle.policy.specs.Limits.{save_size};
 ghost use Rattle.machine.specs.Save.{counter};

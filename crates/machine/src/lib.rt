@@ -1,5 +1,6 @@
 // The tick machine: its instructions, its faults and the schedule place, and in specs/ what a tick does. No code that
 // runs: the crates above prove theirs against these definitions.
+#![tactic(auto)]
 
 // The highest line of a partition, and the most ticks of a Run.
 pub const LAST_LINE: u32 = 7;

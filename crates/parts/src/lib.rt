@@ -1,5 +1,7 @@
 // Memory by numbers: what is done to the save bytes from `from` on, or to a segment from `start` on, is done through
 // that part alone, which is lent.
+#![tactic(auto)]
+
 ghost use Rattle.std.specs.Prelude.{◌≡◌, true, ◌+◌, ◌%◌, ◌≤◌, ◌<◌, length, set};
 ghost use Rattle.std.proofs.lemmas.List.Edits.{sets};
 ghost use Rattle.policy.specs.Limits.{save_size};

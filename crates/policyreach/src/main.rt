@@ -1,5 +1,7 @@
 // Reads a policy text from standard input and writes who can reach whom in it; with two numbers as arguments, whether the first can
 // reach the second. One byte past the longest text is enough to see that a text is too long.
+#![tactic(auto)]
+
 use libc::{STDIN_FILENO, STDOUT_FILENO};
 
 fn tell() {

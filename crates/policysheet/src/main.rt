@@ -1,4 +1,6 @@
 // Reads a policy text from standard input and writes its sheet. One byte past the longest text is enough to see that a text is too long.
+#![tactic(auto)]
+
 use libc::{STDIN_FILENO, STDOUT_FILENO};
 
 fn main() {

@@ -1,4 +1,6 @@
 // Who can reach whom: the report of all chains of flow lines, and the question of one. Both answer for every record.
+#![tactic(auto)]
+
 mod question;
 mod rows;
 mod search;

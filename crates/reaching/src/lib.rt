@@ -1,4 +1,6 @@
 // What policyreach writes: the report on a text, and the answer to a question about it.
+#![tactic(auto)]
+
 mod answer;
 mod lines;
 mod words;

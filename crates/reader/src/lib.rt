@@ -1,4 +1,6 @@
 // Reads a policy text into its record, or refuses it by document 01's number and line.
+#![tactic(auto)]
+
 ghost use Rattle.std.specs.Prelude.{◌≡◌};
 ghost use Rattle.policy.specs.Limits.{single};
 ghost use Rattle.policy.specs.Read.{read_of};

@@ -1,4 +1,6 @@
 // Reads the lines of a policy text into its record, or refuses it by the first line or rule for the whole that is broken.
+#![tactic(auto)]
+
 mod lines;
 mod rights;
 

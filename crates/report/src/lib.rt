@@ -1,4 +1,6 @@
 // The report that policycheck writes.
+#![tactic(auto)]
+
 mod masks;
 mod write;
 

@@ -1,5 +1,7 @@
 // Makes the calls of the file `scenarios` and writes what each answers, the bytes of memory that are asked for, and a
 // number of all of memory at the end of each scenario. tests/scenarios.py says what form the file has.
+#![tactic(auto)]
+
 mod memory;
 mod reaching;
 mod record;

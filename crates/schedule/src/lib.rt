@@ -1,4 +1,6 @@
 // The schedule in time: which places a Run takes, where the place goes, and the ticks of one round.
+#![tactic(auto)]
+
 mod place;
 mod round;
 

@@ -1,5 +1,7 @@
 // What the test programs share: a file as one slice, its lines and their words, numbers and bytes in a line, and what
 // is written. A place past the end is taken for the end, so every function takes any text and any place.
+#![tactic(auto)]
+
 mod numbers;
 mod output;
 mod pieces;

@@ -1,4 +1,6 @@
 // The schedule sheet: of each partition its ticks in one round and its longest silence. It answers for every record.
+#![tactic(auto)]
+
 mod answer;
 mod longest;
 mod own;

@@ -1,4 +1,6 @@
 // Whether a record is sound: whether some accepted text gives it.
+#![tactic(auto)]
+
 ghost use Rattle.std.specs.Prelude.{◌≡◌};
 ghost use Rattle.policy.specs.Limits.{single};
 ghost use Rattle.policy.specs.Record.{tables_of};

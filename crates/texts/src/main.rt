@@ -1,5 +1,7 @@
 // Reads each text of the file `cases` and writes the case's name with the number and the line that reading it answers.
 // A case is a name filled up with spaces to 40 bytes, a length in 7 digits, a line end, and then the text.
+#![tactic(auto)]
+
 use script::{FILE, field, load, number_in, part, past, show, show_number, word};
 
 // Reads the case at a place, and answers where the next one begins.

@@ -1,6 +1,8 @@
 // One tick of a partition over memory and the arrays of a policy record, all lent: one that steps. A fetch or a load is
 // lent one segment, a store that segment alone. The counter goes from tick to tick as a number: each is handed what the
 // save bytes hold, stores the next one there and hands it back.
+#![tactic(auto)]
+
 mod loading;
 mod reach;
 mod storing;

@@ -1,5 +1,7 @@
 // Document 01's rules 6, 7 and 8, and rule 16, which are asked of the whole policy. Each is answered for any value of
 // the record whose counts are within the limits, sound or not.
+#![tactic(auto)]
+
 mod flows;
 mod masks;
 mod rules;
