@@ -13,7 +13,7 @@ use Rattle.policy.specs.Range.{out_of_range}
 use Rattle.policy.specs.Read.{line_refusal, whole_refusal, read_lines_by, read_by}
 use Rattle.policy.specs.Sound.{good_segment, good_partition, good_slot, good_right, good_flow, all_zero, is_shaped, counts_fit, unused_zero, all_under, masks_fit, lines_hold, sound_of}
 use Rattle.policy.specs.Whole.{incomplete, code_unreadable, flow_missing, stray_flow}
-use Rattle.bytes.specs.Numbers.{half, word, with_half, with_word}
+use Rattle.octets.specs.Numbers.{half, word, with_half, with_word}
 use Rattle.machine.specs.Bytes.{little, digits}
 use Rattle.machine.specs.Decode.{operand_fits, operands_fit, instruction_of, decode_of, fetched}
 use Rattle.machine.specs.Faults.{faults}

@@ -4,8 +4,8 @@
 ghost use Rattle.std.specs.Prelude.{◌≡◌, ◌+◌, ◌*◌, get_or};
 ghost use Rattle.machine.specs.Decode.{last_opcode, register_masks, operands_fit, instruction_of, decode_of, fetched};
 
-use bytes::{byte_at, wide};
 use machine::{Decoded, Instr};
+use octets::{byte_at, wide};
 
 // An opcode past the table is no instruction, whatever its operands.
 fn instruction(op: u8, a: u8, b: u8, c: u8) -> Decoded

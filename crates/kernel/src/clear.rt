@@ -8,9 +8,9 @@ ghost use Rattle.calls.specs.Under.{under_policy};
 ghost use Rattle.calls.specs.Start.{cleared, start_answer, after_start};
 
 use crate::save::save_from;
-use bytes::clear;
 use calls::{Outcome, Placed};
 use machine::Place;
+use octets::clear;
 use policy::{MEMORY, Policy, SAVE_SIZE};
 use validate::passes_test;
 

@@ -4,9 +4,9 @@ ghost use Rattle.calls.specs.Under.{under_policy};
 ghost use Rattle.calls.specs.Pend.{pend_outcome, after_pend};
 
 use crate::save::save_from;
-use bytes::{byte_at, put};
 use calls::Outcome;
 use machine::LAST_LINE;
+use octets::{byte_at, put};
 use policy::{MEMORY, Policy};
 use savearea::layout::PENDED;
 use validate::passes_test;

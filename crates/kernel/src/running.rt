@@ -9,9 +9,9 @@ ghost use Rattle.calls.specs.Under.{under_policy};
 ghost use Rattle.calls.specs.Run.{state_of, after_ticks, run_answer, after_run};
 
 use crate::stretch::stretch;
-use bytes::wide;
 use calls::{Outcome, Placed};
 use machine::{MOST_TICKS_OF_RUN, Place};
+use octets::wide;
 use parts::is_able;
 use policy::{MEMORY, Policy};
 use schedule::{is_place, lesser, next_turn, place_with, turn_at};

@@ -1,7 +1,7 @@
 // Where a partition's save segment stands.
 ghost use Rattle.std.specs.Prelude.{◌≡◌, slice_index};
 
-use bytes::{byte_at, half_at};
+use octets::{byte_at, half_at};
 
 // Its first byte, by the bases of the segments and the save segments of the partitions.
 pub(crate) fn save_from<'a>(base: &'a [u16], save: &'a [u8], q: usize) -> u16

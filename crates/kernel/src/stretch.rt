@@ -12,8 +12,8 @@ ghost use Rattle.parts.specs.Parts.{saved_at};
 ghost use Rattle.tick.specs.Seat.{seat_of, Inside, Seated};
 ghost use Rattle.kernel.specs.Stretch.{ticked_by, ticked_for};
 
-use bytes::wide;
 use machine::Fault;
+use octets::wide;
 use parts::{fault, get_counter, interrupt, is_able, is_ready, takes_interrupt};
 use savearea::ASKING;
 use tick::step;

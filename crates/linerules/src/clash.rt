@@ -6,7 +6,7 @@ ghost use Rattle.policy.specs.Limits.{single};
 ghost use Rattle.linerules.specs.Parts.{Barred, EndedBy, end_of, placed, right_on};
 
 use bits::has_bit;
-use bytes::{byte_at, half_at};
+use octets::{byte_at, half_at};
 use policy::SAVE_SIZE;
 use text::Line;
 

@@ -6,7 +6,7 @@ ghost use Rattle.linerules.specs.Parts.{EndedBy, placed};
 
 use crate::clash::{overlaps_earlier, partition_clashes};
 use crate::range::{partition_outside, segment_outside};
-use bytes::{byte_at, half_at};
+use octets::{byte_at, half_at};
 
 // The segments before have ended at `end`. One that begins there or later overlaps none of them, so segments in the order
 // of their bases need one test each.

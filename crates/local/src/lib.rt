@@ -9,8 +9,8 @@ ghost use Rattle.machine.specs.Local.{jumps, waits, comes_back, acts_on};
 ghost use Rattle.savearea.specs.Named.{Named};
 ghost use Rattle.savearea.specs.Next.{Hands};
 
-use bytes::{get_half, get_word_in, put, put_half};
 use machine::{Fault, Instr};
+use octets::{get_half, get_word_in, put, put_half};
 use savearea::layout::{COUNTER, ENABLED, HALTED, HANDLER, IN_HANDLER, RETURN, STATE, WAITING};
 use savearea::{advance, asking, fault, in_handler, put_result};
 

@@ -14,7 +14,7 @@ use Rattle.machine.specs.declared.Decoded.{Decoded}
 use Rattle.machine.specs.declared.Decoded.TheVariants.{Runs, Bad}
 use Rattle.machine.specs.declared.Fault.{Fault}
 use Rattle.machine.specs.declared.Fault.TheVariants.{CounterOver, BadInstruction, NoRight, OffsetOver, WrongHandler}
-use Rattle.bytes.specs.Numbers.{half, with_half, with_word}
+use Rattle.octets.specs.Numbers.{half, with_half, with_word}
 use Rattle.machine.specs.Save.{register, counter, in_handler}
 use Rattle.machine.specs.Faults.{faults}
 use Rattle.machine.specs.Decode.{fetched}

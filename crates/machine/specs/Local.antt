@@ -7,7 +7,7 @@ use Rattle.machine.specs.declared.Instr.{Instr}
 use Rattle.machine.specs.declared.Instr.TheVariants.{Halt, Set, Add, Sub, And, Xor, Shift, Load, Store, Jump}
 use Rattle.machine.specs.declared.Instr.TheVariants.{Wait, Listen, Back, LoadWord, StoreWord, Count}
 use Rattle.machine.specs.declared.Fault.TheVariants.{WrongHandler}
-use Rattle.bytes.specs.Numbers.{half, with_half}
+use Rattle.octets.specs.Numbers.{half, with_half}
 use Rattle.machine.specs.Layout.{layout, ready, halted, waiting}
 use Rattle.machine.specs.Save.{register, with_register, counter, with_counter, state, with_state, pended, enabled}
 use Rattle.machine.specs.Save.{in_handler, due}

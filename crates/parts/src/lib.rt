@@ -13,8 +13,8 @@ ghost use Rattle.machine.specs.Local.{takes_interrupt, interrupted, is_ready, is
 ghost use Rattle.savearea.specs.Next.{Hands};
 ghost use Rattle.parts.specs.Parts.{saved_at, with_saved, is_beside, loaded_from, stored_to};
 
-use bytes::{byte_at, get_half, get_word_in, low, put, put_word_at, word_at};
 use machine::{Decoded, Fault};
+use octets::{byte_at, get_half, get_word_in, low, put, put_word_at, word_at};
 use policy::SAVE_SIZE;
 use savearea::asking;
 use savearea::layout::{COUNTER, READY, STATE};

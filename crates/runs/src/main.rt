@@ -11,9 +11,9 @@ use crate::memory::{fill, look, number_of};
 use crate::reaching::{show_masks, show_reach};
 use crate::record::changed;
 use crate::ticks::show_sheet;
-use bytes::byte_at;
 use calls::Placed;
 use machine::Place;
+use octets::byte_at;
 use policy::Policy;
 use script::{FILE, append, bytes_of, field, load, number_in, part, past, show, show_number, word};
 

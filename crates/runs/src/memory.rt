@@ -1,7 +1,7 @@
 // Memory filled, shown, and as one number.
 ghost use Rattle.std.specs.Prelude.{◌<◌};
 
-use bytes::byte_at;
+use octets::byte_at;
 use script::{show, show_number};
 
 // No byte becomes 0.

@@ -1,5 +1,5 @@
 // The policy record of a scenario: that of a text, with entries changed.
-use bytes::byte_at;
+use octets::byte_at;
 use policy::Policy;
 use script::number_in;
 

@@ -8,7 +8,7 @@ use crate::layout::{
     COUNTER, ENABLED, HANDLER, IN_HANDLER, LINE, PENDED, READY, RETURN, STATE, WAITING,
 };
 use crate::step::in_handler;
-use bytes::{byte_at, get_half, put, put_half, put_word};
+use octets::{byte_at, get_half, put, put_half, put_word};
 
 // With a line that is pended and enabled, outside a handler, ready or waiting. The lines come first: most ticks have
 // none, and are asked no more; those in a handler are not asked for the state.

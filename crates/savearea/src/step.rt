@@ -6,8 +6,8 @@ ghost use Rattle.machine.specs.Faults.{fault_number, faults};
 ghost use Rattle.machine.specs.Local.{advanced, resulted};
 
 use crate::layout::{COUNTER, FAULT, FAULTED, IN_HANDLER, STATE};
-use bytes::{byte_at, put, put_half, put_word_in};
 use machine::Fault;
+use octets::{byte_at, put, put_half, put_word_in};
 
 pub fn in_handler(s: &[u8]) -> bool
     ensures { result ≡ in_handler s.now }

@@ -2,8 +2,8 @@
 ghost use Rattle.std.specs.Prelude.{◌≡◌, ◌&&◌, ◌-◌, ◌≤◌, ◌<◌, min, ltb, get_or};
 ghost use Rattle.schedule.specs.Places.{slot_after, place_with};
 
-use bytes::half_at;
 use machine::Place;
+use octets::half_at;
 
 // Whether refusal 13 lets the place pass.
 pub fn is_place(ticks: &[u16], slots: u8, place: Place) -> bool

@@ -4,7 +4,7 @@ ghost use Rattle.bits.specs.Masks.{has};
 ghost use Rattle.machine.specs.Tick.{reaches};
 
 use bits::has_bit;
-use bytes::wide;
+use octets::wide;
 
 pub(crate) fn entry<'a>(table: &'a [u16], s: u32) -> usize
     requires { s < length table.now }

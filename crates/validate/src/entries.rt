@@ -5,8 +5,8 @@ ghost use Rattle.policy.specs.Limits.{single};
 ghost use Rattle.policy.specs.Sound.{good_segment, good_partition};
 ghost use Rattle.linerules.specs.Parts.{EndedBy, placed};
 
-use bytes::half_at;
 use linerules::{partition_passes, segment_passes};
+use octets::half_at;
 
 // Where the segments up to i have ended.
 fn end_after<'a>(base: &'a [u16], size: &'a [u16], i: u8, end: u32) -> u32

@@ -9,7 +9,7 @@ use mathlib.Core.Bool.{cond}
 use lib.Dec.{leb, ltb}
 use lib.ListN.{length, get_or}
 use lib.Seq.{sets}
-use Rattle.bytes.specs.Numbers.{word, with_word}
+use Rattle.octets.specs.Numbers.{word, with_word}
 use Rattle.machine.specs.declared.Fault.TheVariants.{NoRight, OffsetOver}
 use Rattle.machine.specs.Bytes.{little, digits}
 use Rattle.machine.specs.Save.{register}

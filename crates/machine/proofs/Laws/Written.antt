@@ -8,8 +8,8 @@ use mathlib.Core.Logic.{inl}
 use mathlib.Core.List.{List, ◌++◌}
 use lib.ListN.{length, get_or, set, take, drop, length-set, length-take}
 use lib.Seq.{sets, get_or-set_same, get_or-set_other, take-append_seam, drop-append_seam}
-use Rattle.bytes.specs.Numbers.{word, with_half, with_word}
-use Rattle.bytes.proofs.Laws.Halves.{half_put, half_behind_word}
+use Rattle.octets.specs.Numbers.{word, with_half, with_word}
+use Rattle.octets.proofs.Laws.Halves.{half_put, half_behind_word}
 use Rattle.machine.specs.Bytes.{part, with_part, little, digits}
 use Rattle.machine.specs.Save.{register, counter}
 use Rattle.machine.specs.Local.{advanced, resulted}

@@ -13,7 +13,7 @@ use Rattle.machine.specs.declared.Fault.{Fault}
 use Rattle.machine.specs.Save.{counter}
 use Rattle.machine.specs.Faults.{faults}
 use Rattle.machine.specs.Local.{advanced, interrupted, entered}
-use Rattle.bytes.specs.Numbers.{with_half, with_word}
+use Rattle.octets.specs.Numbers.{with_half, with_word}
 use Rattle.machine.proofs.Laws.Parts.{part-sets_other}
 use Rattle.machine.proofs.Laws.Written.{part_put}
 use Rattle.policy.proofs.Laws.Bools.{or_cases}

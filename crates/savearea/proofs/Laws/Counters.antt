@@ -5,8 +5,8 @@ use mathlib.Core.Path.{◌≡◌, ◌∙◌}
 use mathlib.Core.Logic.{inr}
 use mathlib.Core.List.{List}
 use lib.ListN.{length, set}
-use Rattle.bytes.specs.Numbers.{with_half, with_word}
-use Rattle.bytes.proofs.Laws.Halves.{half_put, half_beside, half_behind_word}
+use Rattle.octets.specs.Numbers.{with_half, with_word}
+use Rattle.octets.proofs.Laws.Halves.{half_put, half_beside, half_behind_word}
 use Rattle.machine.specs.declared.Fault.{Fault}
 use Rattle.machine.specs.Save.{counter}
 use Rattle.machine.specs.Faults.{faults}

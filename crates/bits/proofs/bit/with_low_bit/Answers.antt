@@ -1,0 +1,8 @@
+-- One bit moved up s places, which does not pass the width.
+use native.Mathlib.Nat.{one-mul, mod-eq_of_lt}
+use lib.Pow.{pow-lt}
+use borrow.Author.Rules.{rules}
+use Rattle.bits.proofs.bit.with_low_bit.Goals as goal
+
+pub returns : goal.returns
+returns c = rw (one-mul, mod-eq_of_lt (pow-lt {j = 32} c.requires))
