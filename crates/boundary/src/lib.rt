@@ -22,7 +22,7 @@ use policy::Policy;
 
 // struct sk_read_result
 #[repr(C)]
-#[derive(Drop)]
+#[derive(Clone, Copy)]
 pub struct ReadResult {
     pub number: u32,
     pub line: u32,
@@ -31,7 +31,7 @@ pub struct ReadResult {
 
 // struct sk_run_result
 #[repr(C)]
-#[derive(Drop)]
+#[derive(Clone, Copy)]
 pub struct RunResult {
     pub number: u32,
     pub place: Place,
@@ -39,7 +39,7 @@ pub struct RunResult {
 
 // struct sk_reach_result
 #[repr(C)]
-#[derive(Drop)]
+#[derive(Clone, Copy)]
 pub struct ReachResult {
     pub number: u32,
     pub sources: [u32; 32],
@@ -47,7 +47,7 @@ pub struct ReachResult {
 
 // struct sk_answer
 #[repr(C)]
-#[derive(Drop)]
+#[derive(Clone, Copy)]
 pub struct QuestionResult {
     pub number: u32,
     pub yes: u32,
@@ -55,7 +55,7 @@ pub struct QuestionResult {
 
 // struct sk_sheet_result
 #[repr(C)]
-#[derive(Drop)]
+#[derive(Clone, Copy)]
 pub struct SheetResult {
     pub number: u32,
     pub ticks: [u32; 8],

@@ -5,7 +5,7 @@
 use machine::Place;
 
 // What an operation answers: that it acted, or why it refused.
-#[derive(Drop)]
+#[derive(Clone, Copy)]
 pub enum Outcome {
     Done,
     WrongMemory,
@@ -17,7 +17,7 @@ pub enum Outcome {
 }
 
 // The answer of Start and Run, with the schedule place.
-#[derive(Drop)]
+#[derive(Clone, Copy)]
 pub struct Placed {
     pub outcome: Outcome,
     pub place: Place,

@@ -4,7 +4,7 @@ use script::{FILE, field, load, part, past, same, show, show_number};
 
 // What the lines so far have left: the number of the last block, its first line and whether it is still open, and where
 // the last accepted text stands.
-#[derive(Drop)]
+#[derive(Clone, Copy)]
 pub struct Seen {
     pub block: u32,
     pub open: bool,

@@ -10,7 +10,7 @@ use script::{
 
 // What the lines so far have come to: the schedule's place, the number that the last call answered, how many lines were
 // checks, and whether all were right.
-#[derive(Drop)]
+#[derive(Clone, Copy)]
 pub struct Stand {
     pub place: Place,
     pub number: u32,

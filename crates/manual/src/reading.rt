@@ -3,7 +3,7 @@ use policy::Refusal;
 use script::{append, nth, number_in, part, same, show, show_number, word};
 
 // Whether reading answered what is asked, and whether the text was accepted.
-#[derive(Drop)]
+#[derive(Clone, Copy)]
 pub struct Verdict {
     pub right: bool,
     pub accepted: bool,

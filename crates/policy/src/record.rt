@@ -1,6 +1,6 @@
 // The policy record: who may read and write which segment, and the schedule. Unused entries are 0.
 #[repr(C)]
-#[derive(Drop)]
+#[derive(Clone, Copy)]
 pub struct Policy {
     pub segments: u8,
     pub partitions: u8,
@@ -24,7 +24,7 @@ pub struct Policy {
 }
 
 // Where a line stands in the order of lines: its kind, and its id or pair.
-#[derive(Drop)]
+#[derive(Clone, Copy)]
 pub struct Key {
     pub kind: u8,
     pub first: u32,
@@ -32,7 +32,7 @@ pub struct Key {
 }
 
 // Why a text is refused, with the number of the line where one is named.
-#[derive(Drop)]
+#[derive(Clone, Copy)]
 pub enum Refusal {
     Accepted,
     TooLong,
@@ -47,14 +47,14 @@ pub enum Refusal {
 }
 
 // What reading a text answers; the record is that of zeros where the text is refused.
-#[derive(Drop)]
+#[derive(Clone, Copy)]
 pub struct Reading {
     pub refusal: Refusal,
     pub policy: Policy,
 }
 
 // What a question about a policy answers: that it was answered, or why it was refused.
-#[derive(Drop)]
+#[derive(Clone, Copy)]
 pub enum Asked {
     Answered,
     Unsound,

@@ -9,13 +9,13 @@ mod spread;
 use policy::Asked;
 
 // Bit s of rows[t]: a chain leads from s to t. All 0 past the segments and where it is refused.
-#[derive(Drop)]
+#[derive(Clone, Copy)]
 pub struct Report {
     pub asked: Asked,
     pub rows: [u32; 32],
 }
 
-#[derive(Drop)]
+#[derive(Clone, Copy)]
 pub struct Answer {
     pub asked: Asked,
     pub yes: bool,

@@ -9,7 +9,7 @@ use text::{Cursor, Number};
 use writing::{put_byte, put_word};
 
 // Whether two numbers are there, and which.
-#[derive(Drop)]
+#[derive(Clone, Copy)]
 pub struct Words {
     pub asks: bool,
     pub from: u32,

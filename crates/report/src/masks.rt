@@ -5,7 +5,7 @@ ghost use Rattle.report.specs.Masks.{mask_in};
 
 use bits::has_bit;
 
-#[derive(Drop)]
+#[derive(Clone, Copy)]
 pub struct Masks {
     pub reads: u32,
     pub writes: u32,

@@ -26,7 +26,7 @@ pub fn takes_interrupt(s: &[u8]) -> bool
     (state == READY) | (state == WAITING)
 }
 
-#[derive(Drop)]
+#[derive(Clone, Copy)]
 struct Taken {
     line: u32,
     pended: u8,

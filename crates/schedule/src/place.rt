@@ -22,7 +22,7 @@ pub fn lesser(a: u32, b: u32) -> u32
 
 // A slot, and how many of its ticks are left. A Run keeps these in place of the ticks used, which it would have to keep beside
 // those left.
-#[derive(Drop)]
+#[derive(Clone, Copy)]
 pub struct Turn {
     pub slot: u32,
     pub left: u32,

@@ -8,7 +8,7 @@ mod own;
 use policy::Asked;
 
 // Of each partition; 0 past the partitions, and all 0 where it is refused.
-#[derive(Drop)]
+#[derive(Clone, Copy)]
 pub struct Sheet {
     pub ticks: [u32; 8],
     pub silence: [u32; 8],

@@ -1,19 +1,19 @@
 // The reader's place: a byte of the text, and the number of the line that it stands in, from 1.
-#[derive(Drop)]
+#[derive(Clone, Copy)]
 pub struct Cursor {
     pub at: usize,
     pub line: u32,
 }
 
 // What a field says, read as a number or as letters.
-#[derive(Drop)]
+#[derive(Clone, Copy)]
 pub enum Number {
     Value(u32),
     Malformed,
 }
 
 // What a whole line says: document 01's five kinds, and the line that refusal 2 is for.
-#[derive(Drop)]
+#[derive(Clone, Copy)]
 pub enum Line {
     Bad,
     Segment {
@@ -42,7 +42,7 @@ pub enum Line {
 }
 
 // Which record word a field is.
-#[derive(Drop)]
+#[derive(Clone, Copy)]
 pub enum Kind {
     OfSegment,
     OfPartition,

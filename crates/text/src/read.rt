@@ -2,7 +2,7 @@
 use crate::line::{Cursor, Kind, Line, Number};
 
 // What digits write, modulo 4,294,967,296, where they end, and the byte there, 0 where the text ends.
-#[derive(Drop)]
+#[derive(Clone, Copy)]
 pub struct Digits {
     pub value: u32,
     pub end: usize,
@@ -11,7 +11,7 @@ pub struct Digits {
 
 // The digits of a number: what they write, where they begin, how many there may be, where they end, and whether the
 // byte that is to end the field stands there.
-#[derive(Drop)]
+#[derive(Clone, Copy)]
 pub struct NumberDigits {
     pub value: u32,
     pub from: usize,
@@ -21,21 +21,21 @@ pub struct NumberDigits {
 }
 
 // The record word.
-#[derive(Drop)]
+#[derive(Clone, Copy)]
 pub struct WordRead {
     pub kind: Kind,
     pub next: Cursor,
 }
 
 // A number, or the letters of a right.
-#[derive(Drop)]
+#[derive(Clone, Copy)]
 pub struct NumberRead {
     pub number: Number,
     pub next: Cursor,
 }
 
 // What a line says, and where the place is left.
-#[derive(Drop)]
+#[derive(Clone, Copy)]
 pub struct LineRead {
     pub line: Line,
     pub next: Cursor,

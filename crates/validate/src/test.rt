@@ -17,7 +17,7 @@ use policy::{PARTITIONS, Policy, SEGMENTS, SLOTS};
 use wholerules::lent_refusal;
 
 // How many segments, partitions and slots a record has, and the byte after them.
-#[derive(Drop)]
+#[derive(Clone, Copy)]
 struct Counts {
     segments: u8,
     partitions: u8,

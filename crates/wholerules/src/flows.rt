@@ -9,7 +9,7 @@ use crate::masks::{reach_all, target_lacks};
 use bits::worth;
 
 // Whether a line that rule 8 asks for is missing, and whether a line into a save segment has a stray source.
-#[derive(Drop)]
+#[derive(Clone, Copy)]
 pub(crate) struct Flows {
     pub(crate) missing: bool,
     pub(crate) stray: bool,

@@ -13,7 +13,7 @@ use bits::{bit_of, bits_below, has_bit, mask_at, within};
 // What some partition reaches by the read masks, what some write mask gives, the save segments into which a line from
 // what their partition reaches is missing (rule 8), and whether a save segment has a source that its partition does not
 // reach (rule 16).
-#[derive(Drop)]
+#[derive(Clone, Copy)]
 pub(crate) struct All {
     reached: u64,
     given: u64,

@@ -5,8 +5,7 @@ use mathlib.Core.Bool.{Bool, true, false, not, or-false}
 use native.Mathlib.Omega.{arith}
 use borrow.Author.Tests.{ltb-true, ltb-false, lt-ltb, le-ltb, le-leb, lt-leb, eq-eqb, ne_eqb}
 use lib.Dec.{ltb, leb}
-use Rattle.linerules.proofs.order.falls.Statement.{statement}
-use Rattle.linerules.proofs.order.falls.Tie as tie
+use Rattle.linerules.proofs.order.falls.Goals as goal
 
 not-above : (a b : ℕ) → leb a b ≡ not (ltb b a)
 not-above a b = go (ltb b a) refl
@@ -29,23 +28,20 @@ level a b h = le-ltb a b (omega arith)
 level-back : (a b : ℕ) → a ≡ b → ltb b a ≡ false
 level-back a b h = le-ltb b a (omega arith)
 
-returns : tie.Need-returns
-returns c = rw (ne_eqb _ _ c.before.if1.true, or-false)
+pub returns-then-before-kind : goal.returns-then-before-kind
+returns-then-before-kind c = rw (ne_eqb _ _ c.if-before-kind.true, or-false)
 
-returns-2 : tie.Need-returns-2
-returns-2 c =
-    let kinds = c.before.before.before in
-    let x = kinds.before.before.args in
-    rw (eq-eqb _ _ kinds.if1.false, level-back _ _ kinds.if1.false, ne_eqb _ _ c.before.if2.true, or-false)
-    (apart x.first x.before.first c.before.if2.true)
+pub returns-then-before-first : goal.returns-then-before-first
+returns-then-before-first c =
+    let kinds = c in
+    let x = kinds.args in
+    rw (eq-eqb _ _ kinds.if-before-kind.false, level-back _ _ kinds.if-before-kind.false, ne_eqb _ _ c.if-before-first.true, or-false)
+    (apart x.first x.before.first c.if-before-first.true)
 
-returns-3 : tie.Need-returns-3
-returns-3 c =
-    let kinds = c.before.before.before in
-    let firsts = c.before.if2.false in
-    let x = kinds.before.before.args in
-    rw (eq-eqb _ _ kinds.if1.false, level-back _ _ kinds.if1.false, eq-eqb _ _ firsts, level _ _ firsts)
+pub returns : goal.returns
+returns c =
+    let kinds = c in
+    let firsts = c.if-before-first.false in
+    let x = kinds.args in
+    rw (eq-eqb _ _ kinds.if-before-kind.false, level-back _ _ kinds.if-before-kind.false, eq-eqb _ _ firsts, level _ _ firsts)
     (not-above x.second x.before.second)
-
-pub falls-spec : {M : Type 1} → statement M
-falls-spec = tie.close (tie.spec returns returns-2 returns-3)

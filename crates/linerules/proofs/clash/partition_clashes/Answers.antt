@@ -1,0 +1,6 @@
+-- The tests in the order of the definition.
+use borrow.Author.Rules.{rules}
+use Rattle.linerules.proofs.clash.partition_clashes.Goals as goal
+
+pub returns : goal.returns
+returns c = rw (c.shares_earlier-shared.ensures, c.half_at-bytes.ensures)

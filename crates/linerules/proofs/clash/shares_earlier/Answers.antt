@@ -1,0 +1,20 @@
+-- No partition passed shares, and the first that does is found.
+use Prim.Native.Nat.{◌-◌}
+use mathlib.Core.List.{[]}
+use borrow.Author.Rules.{rules}
+use Rattle.policy.specs.Clash.{shares}
+use Rattle.policy.proofs.Laws.Loops.{Searched, search_none, search_found, search_more, search_done}
+use Rattle.linerules.specs.Parts.{placed}
+use Rattle.linerules.proofs.clash.shares_earlier.Goals as goal
+
+pub loop-i-init : goal.loop-i-init
+loop-i-init c = search_none _ _
+
+pub returns-then-save-s : goal.returns-then-save-s
+returns-then-save-s c = search_found _ _ _ _ c.loop-i-test.true (rw (c.byte_at-s.ensures, c.byte_at-c.ensures)) c.if-save-s.true
+
+pub loop-i-preserved : goal.loop-i-preserved
+loop-i-preserved c = search_more _ _ _ _ c.loop-i.invariant c.loop-i-test.true (rw (c.byte_at-s.ensures, c.byte_at-c.ensures)) c.if-save-s.false
+
+pub returns : goal.returns
+returns c = search_done _ _ _ c.loop-i.invariant c.loop-i-test.false

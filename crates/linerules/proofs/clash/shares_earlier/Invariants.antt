@@ -1,0 +1,14 @@
+-- No partition passed shares, and the first that does is found.
+use Prim.Native.Nat.{◌-◌}
+use mathlib.Core.List.{[]}
+use borrow.Author.Rules.{rules}
+use Rattle.policy.specs.Clash.{shares}
+use Rattle.policy.proofs.Laws.Loops.{Searched, search_none, search_found, search_more, search_done}
+use Rattle.linerules.specs.Parts.{placed}
+use Rattle.linerules.proofs.clash.shares_earlier.Given as goal
+
+abbrev pub invariant-loop-i : goal.invariant-loop-i
+invariant-loop-i l = Searched l.partitions (shares (placed 0 0 [] [] l.codes l.saves) l.code l.save) l.i
+
+abbrev pub decreases-loop-i : goal.decreases-loop-i
+decreases-loop-i l = l.partitions - l.i

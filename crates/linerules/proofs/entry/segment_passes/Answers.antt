@@ -1,0 +1,39 @@
+-- Neither rule applies to the line that would put the segment there.
+use mathlib.Core.Path.{sym, ◌∙◌}
+use borrow.Author.Rules.{rules}
+use Rattle.policy.specs.Range.{out_of_range}
+use Rattle.policy.specs.Clash.{clashes}
+use Rattle.policy.specs.Sound.{good_segment}
+use Rattle.linerules.proofs.Laws.Ends.{none_past}
+use Rattle.linerules.proofs.entry.segment_passes.Goals as goal
+
+pub returns-then-segment_outside : goal.returns-then-segment_outside
+unfolding good_segment out_of_range clashes
+returns-then-segment_outside c =
+    rw (
+      ← c.half_at-base.ensures,
+      ← c.half_at-size.ensures,
+      sym c.segment_outside.ensures ∙ c.if-segment_outside.true,
+    )
+
+pub returns-then-end-base : goal.returns-then-end-base
+unfolding good_segment out_of_range clashes
+returns-then-end-base c =
+    let start = c in
+    let a = start.args in
+    rw (
+      ← c.half_at-base.ensures,
+      ← c.half_at-size.ensures,
+      sym c.segment_outside.ensures ∙ c.if-segment_outside.false,
+      none_past a.bases.now a.sizes.now a.i a.end _ _ start.requires c.if-end-base.true,
+    )
+
+pub returns : goal.returns
+unfolding good_segment out_of_range clashes
+returns c =
+    rw (
+      ← c.half_at-base.ensures,
+      ← c.half_at-size.ensures,
+      sym c.segment_outside.ensures ∙ c.if-segment_outside.false,
+      c.overlaps_earlier.ensures,
+    )
