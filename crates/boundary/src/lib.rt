@@ -12,7 +12,7 @@ ghost use Rattle.calls.specs.Outcomes.{outcome_number};
 ghost use Rattle.calls.specs.Start.{start_answer, after_start};
 ghost use Rattle.calls.specs.Pend.{pend_outcome, after_pend};
 ghost use Rattle.calls.specs.Run.{state_of, run_answer, after_run};
-ghost use Rattle.reach.specs.Answers.{reachAnswer, canReachAnswer};
+ghost use Rattle.reach.specs.Answers.{reach_answer, can_reach_answer};
 ghost use Rattle.sheet.specs.Answer.{sheet_answer};
 ghost use Rattle.boundary.specs.Results.{Tells, run_result, reach_result, question_result, sheet_result};
 ghost use Rattle.boundary.specs.Version.{version};
@@ -129,7 +129,7 @@ pub extern "C" fn sk_run(policy: Policy, memory: &mut [u8], place: Place, ticks:
 
 #[unsafe(no_mangle)]
 pub extern "C" fn sk_reach(policy: Policy) -> ReachResult
-    ensures { result ≡ reach_result (reachAnswer (under_policy policy)) }
+    ensures { result ≡ reach_result (reach_answer (under_policy policy)) }
 {
     let report = reach::reach(policy);
     let asked = report.asked;
@@ -142,7 +142,7 @@ pub extern "C" fn sk_reach(policy: Policy) -> ReachResult
 
 #[unsafe(no_mangle)]
 pub extern "C" fn sk_can_reach(policy: Policy, from: u32, to: u32) -> QuestionResult
-    ensures { result ≡ question_result (canReachAnswer (under_policy policy) from to) }
+    ensures { result ≡ question_result (can_reach_answer (under_policy policy) from to) }
 {
     let answer = reach::can_reach(policy, from, to);
     let asked = answer.asked;

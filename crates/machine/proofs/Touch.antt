@@ -120,12 +120,12 @@ module _ (S : Seat) where
   obeys_touches s look count (Runs i) h = executes_touches s look count i h
   obeys_touches s look count Bad h = length-faults s BadInstruction ∙ h
 
-  pub effect_touches : (codeSize : ℕ) (x : Sees) → Long x.saved → Touches S (effect S codeSize x)
+  pub effect_touches : (code_size : ℕ) (x : Sees) → Long x.saved → Touches S (effect S code_size x)
   unfolding effect steps
-  effect_touches codeSize x h =
+  effect_touches code_size x h =
       cond_both (Touches S) (takes_interrupt x.saved) (λ _. length-interrupted x.saved ∙ h)
       (cond_both (Touches S) (is_ready x.saved)
-      (λ _. cond_both (Touches S) (ltb codeSize (counter x.saved + 4))
+      (λ _. cond_both (Touches S) (ltb code_size (counter x.saved + 4))
       (λ _. length-faults x.saved CounterOver ∙ h)
       (obeys_touches x.saved x.look x.count (fetched S.opcodes x.code (counter x.saved)) h))
       tt)

@@ -25,7 +25,7 @@ use Rattle.policy.proofs.Laws.Lists.{list_long, list_at, list_same}
 use Rattle.calls.specs.Under.{Under, under}
 use Rattle.reach.specs.Via.{reaches}
 use Rattle.reach.specs.Rows.{those_below, row_of, row_mask, report_masks}
-use Rattle.reach.specs.Answers.{reachAsked, reachAnswer, canReachAsked, canReachAnswer}
+use Rattle.reach.specs.Answers.{reach_asked, reach_answer, can_reach_asked, can_reach_answer}
 use Rattle.reach.specs.Exact.{MaskExact, MasksReport, Agrees}
 use Rattle.reach.proofs.Laws.Rows.{those_pass, those_hold, those_same}
 
@@ -71,7 +71,7 @@ module _ (limits : Limits) (v : View) (s t : ℕ) where
   with sound = record { limits = limits; view = v; sound = sound }
 
   agree_unsound : Agrees (with false) s t
-  unfolding reachAnswer reachAsked canReachAnswer canReachAsked
+  unfolding reach_answer reach_asked can_reach_answer can_reach_asked
   agree_unsound =
       record {
         yes = sym (none_set limits.segments t s);
@@ -80,7 +80,7 @@ module _ (limits : Limits) (v : View) (s t : ℕ) where
       }
 
   agree_sound : v.segments ≤ limits.segments → Agrees (with true) s t
-  unfolding reachAnswer reachAsked canReachAnswer canReachAsked
+  unfolding reach_answer reach_asked can_reach_answer can_reach_asked
   agree_sound few = go (no_segment v s || no_segment v t) refl
     where
       go : (d : Bool) → no_segment v s || no_segment v t ≡ d → Agrees (with true) s t
@@ -132,13 +132,13 @@ module _ (limits : Limits) (tables : Tables) where
         absurd (true≢false (sym e ∙ bit_outside limits v bit_few s t (rw (le-leb v.segments s (omega arith)))))
 
     pub mask_exact : MaskExact (under limits tables) t
-    unfolding reachAnswer reachAsked
+    unfolding reach_answer reach_asked
     mask_exact s =
         rw h
         (bit_row_lem s (dec_lt s v.segments), λ m. let p = those_pass test v.segments s m in bit s p.0 ∙ p.1)
 
   pub masks_report : sound_of limits tables ≡ true → MasksReport (under limits tables)
-  unfolding reachAnswer reachAsked
+  unfolding reach_answer reach_asked
   masks_report h =
       let v = view_of tables in
       let few = (lawful limits tables h).few_segments in

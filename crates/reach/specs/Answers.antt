@@ -14,25 +14,25 @@ use Rattle.reach.specs.declared.Answer.{Answer}
 use Rattle.reach.specs.declared.Report.{Report}
 
 -- The report is one for all segments, so 15 is never its answer.
-unfoldable pub reachAsked : Under → Asked
-reachAsked u = sound_asked u.sound
+unfoldable pub reach_asked : Under → Asked
+reach_asked u = sound_asked u.sound
 
 -- "report empty": no bit in any mask
-unfoldable pub reachAnswer : Under → Report
-reachAnswer u =
+unfoldable pub reach_answer : Under → Report
+reach_answer u =
     record {
-      asked = reachAsked u;
-      rows = answers (reachAsked u) (report_masks u.limits u.view) (replicate u.limits.segments 0);
+      asked = reach_asked u;
+      rows = answers (reach_asked u) (report_masks u.limits u.view) (replicate u.limits.segments 0);
     }
 
-unfoldable pub canReachAsked : Under → ℕ → ℕ → Asked
-canReachAsked u s t =
+unfoldable pub can_reach_asked : Under → ℕ → ℕ → Asked
+can_reach_asked u s t =
     first_of Answered
     (record { applies = unsound u; answer = Unsound }
     ∷ record { applies = no_segment u.view s || no_segment u.view t; answer = NoSegment }
     ∷ [])
 
 -- "answer no"
-unfoldable pub canReachAnswer : Under → ℕ → ℕ → Answer
-canReachAnswer u s t =
-    record { asked = canReachAsked u s t; yes = answers (canReachAsked u s t) (reaches u.view s t) false }
+unfoldable pub can_reach_answer : Under → ℕ → ℕ → Answer
+can_reach_answer u s t =
+    record { asked = can_reach_asked u s t; yes = answers (can_reach_asked u s t) (reaches u.view s t) false }

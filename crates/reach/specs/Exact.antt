@@ -10,7 +10,7 @@ use Rattle.calls.specs.Under.{Under}
 use Rattle.calls.specs.Lists.{Source}
 use Rattle.reach.specs.Via.{reaches}
 use Rattle.reach.specs.Rows.{those_below, row_of, report_of}
-use Rattle.reach.specs.Answers.{reachAnswer, canReachAnswer}
+use Rattle.reach.specs.Answers.{reach_answer, can_reach_answer}
 
 -- "A chain may have any length, and the report must be exact." The chain is document 01's, the one that demand 3 speaks of.
 abbrev pub Exact : View → Type 0
@@ -40,19 +40,19 @@ Sources v t = (s : ℕ) → ((s ≡ t) ⊎ Memᴰ s (row_of v t)) ↔ Source v t
 
 -- A report's mask is the row.
 abbrev pub MaskExact : Under → ℕ → Type 0
-MaskExact u t = (s : ℕ) → (has (get_or (reachAnswer u).rows t 0) s ≡ true) ↔ Memᴰ s (row_of u.view t)
+MaskExact u t = (s : ℕ) → (has (get_or (reach_answer u).rows t 0) s ≡ true) ↔ Memᴰ s (row_of u.view t)
 
 -- All masks together are the report.
 abbrev pub MasksReport : Under → Type 0
 MasksReport u =
-    list_below u.view.segments (λ t. those_below u.view.segments (has (get_or (reachAnswer u).rows t 0))) ≡ report_of u.view
+    list_below u.view.segments (λ t. those_below u.view.segments (has (get_or (reach_answer u).rows t 0))) ≡ report_of u.view
 
 -- "always agrees with the report": of every record, sound or not, and of every two numbers.
 pub record Agrees (u : Under) (s t : ℕ) : Type 0 where
-  pub yes : (canReachAnswer u s t).yes ≡ has (get_or (reachAnswer u).rows t 0) s
+  pub yes : (can_reach_answer u s t).yes ≡ has (get_or (reach_answer u).rows t 0) s
   -- 10 on both
-  pub unsound : ((canReachAnswer u s t).asked ≡ Unsound) ↔ ((reachAnswer u).asked ≡ Unsound)
+  pub unsound : ((can_reach_answer u s t).asked ≡ Unsound) ↔ ((reach_answer u).asked ≡ Unsound)
   -- 15 has no row: the report is answered, and s or t isn't a segment
   pub no_segment_lem :
-      ((canReachAnswer u s t).asked ≡ NoSegment)
-      ↔ (((reachAnswer u).asked ≡ Answered) × ((s < u.view.segments) × (t < u.view.segments) → ⊥))
+      ((can_reach_answer u s t).asked ≡ NoSegment)
+      ↔ (((reach_answer u).asked ≡ Answered) × ((s < u.view.segments) × (t < u.view.segments) → ⊥))

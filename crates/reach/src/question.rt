@@ -2,7 +2,7 @@
 ghost use Rattle.std.specs.Prelude.{◌≡◌};
 ghost use Rattle.policy.specs.Asked.{asked_number};
 ghost use Rattle.calls.specs.Under.{under_policy};
-ghost use Rattle.reach.specs.Answers.{canReachAnswer};
+ghost use Rattle.reach.specs.Answers.{can_reach_answer};
 
 use crate::Answer;
 use crate::search::leads;
@@ -20,7 +20,7 @@ pub fn asked_number(asked: Asked) -> u32
 }
 
 pub fn can_reach(policy: Policy, from: u32, to: u32) -> Answer
-    ensures { result ≡ canReachAnswer (under_policy policy) from to }
+    ensures { result ≡ can_reach_answer (under_policy policy) from to }
 {
     // Taken out before the test: else the whole record is copied for it.
     let segments = policy.segments;

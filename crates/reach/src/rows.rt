@@ -1,7 +1,7 @@
 // The report.
 ghost use Rattle.std.specs.Prelude.{◌≡◌};
 ghost use Rattle.calls.specs.Under.{under_policy};
-ghost use Rattle.reach.specs.Answers.{reachAnswer};
+ghost use Rattle.reach.specs.Answers.{reach_answer};
 
 use crate::Report;
 use crate::spread::spread_all;
@@ -9,7 +9,7 @@ use policy::{Asked, Policy};
 use validate::passes_test;
 
 pub fn reach(policy: Policy) -> Report
-    ensures { result ≡ reachAnswer (under_policy policy) }
+    ensures { result ≡ reach_answer (under_policy policy) }
 {
     // Taken out before the test: else the whole record is copied for it.
     let segments = policy.segments;

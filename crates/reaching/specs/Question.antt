@@ -15,7 +15,7 @@ use Rattle.calls.specs.Under.{under}
 use Rattle.writing.specs.Row.{field}
 use Rattle.report.specs.Report.{refused_row}
 use Rattle.report.specs.Rows.{refused_with}
-use Rattle.reach.specs.Answers.{canReachAnswer}
+use Rattle.reach.specs.Answers.{can_reach_answer}
 use Rattle.reach.specs.declared.Answer.{Answer as Question}
 use Rattle.reaching.specs.declared.words.Words.{Words}
 
@@ -55,7 +55,7 @@ answer_line s t a = cond (is_answered a.asked) (reach_line s t a.yes) (refused_w
 -- Of an accepted text the question's answer, of a refused one policycheck's line.
 unfoldable pub question_line : Limits → ℕ → ℕ → Answer → List ℕ
 question_line limits s t a =
-    cond (is_accepted a.refusal) (answer_line s t (canReachAnswer (under limits a.tables) s t)) (refused_row a.refusal)
+    cond (is_accepted a.refusal) (answer_line s t (can_reach_answer (under limits a.tables) s t)) (refused_row a.refusal)
 
 -- Of other words a line that says how to call it.
 abbrev pub usage : List ℕ

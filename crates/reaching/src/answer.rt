@@ -3,7 +3,7 @@ ghost use Rattle.std.specs.Prelude.{◌+◌, ◌≤◌, ◌<◌, ◌≡◌, leng
 ghost use Rattle.std.proofs.lemmas.List.Edits.{sets};
 ghost use Rattle.policy.specs.Limits.{single};
 ghost use Rattle.calls.specs.Under.{under_policy};
-ghost use Rattle.reach.specs.Answers.{canReachAnswer};
+ghost use Rattle.reach.specs.Answers.{can_reach_answer};
 ghost use Rattle.writing.specs.Written.{Written};
 ghost use Rattle.reaching.specs.Question.{answer_line, question_of, reach_line, yes_end};
 
@@ -39,7 +39,7 @@ fn put_reach(out: &mut [u8], from: u32, to: u32, yes: bool) -> usize
 
 fn put_answer(policy: Policy, from: u32, to: u32, out: &mut [u8]) -> usize
     requires { 17 ≤ length out.old }
-    ensures { Written out.old 0 (answer_line from to (canReachAnswer (under_policy policy) from to)) out.new result }
+    ensures { Written out.old 0 (answer_line from to (can_reach_answer (under_policy policy) from to)) out.new result }
 {
     let answer = can_reach(policy, from, to);
     let asked = answer.asked;

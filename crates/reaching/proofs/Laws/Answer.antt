@@ -21,7 +21,7 @@ use Rattle.calls.specs.Under.{under}
 use Rattle.report.specs.Report.{refused_row}
 use Rattle.report.specs.Rows.{refused_with}
 use Rattle.report.proofs.Laws.Rows.{refused_length}
-use Rattle.reach.specs.Answers.{canReachAsked, canReachAnswer}
+use Rattle.reach.specs.Answers.{can_reach_asked, can_reach_answer}
 use Rattle.reaching.specs.declared.words.Words.{Words}
 use Rattle.reaching.specs.Question.{words_of, yes_end, reach_line, answer_line, question_line, usage, question_of}
 use Rattle.reaching.proofs.Laws.Lines.{field_short}
@@ -41,9 +41,9 @@ asked_small Answered = omega arith
 asked_small Unsound = omega arith
 asked_small NoSegment = omega arith
 
-pub asked_inside : (limits : Limits) (t : Tables) (s u : ℕ) → is_answered (canReachAsked (under limits t) s u) ≡ true →
+pub asked_inside : (limits : Limits) (t : Tables) (s u : ℕ) → is_answered (can_reach_asked (under limits t) s u) ≡ true →
     (s < limits.segments) × (u < limits.segments)
-unfolding canReachAsked
+unfolding can_reach_asked
 asked_inside limits t s u = go (sound_of limits t) refl (no_segment (view_of t) s || no_segment (view_of t) u) refl
   where
     go : (b : Bool) → sound_of limits t ≡ b → (d : Bool) → no_segment (view_of t) s || no_segment (view_of t) u ≡ d →
@@ -57,12 +57,12 @@ asked_inside limits t s u = go (sound_of limits t) refl (no_segment (view_of t) 
 
 -- An answer's line has at most 17 bytes.
 pub answer_short : (limits : Limits) (t : Tables) (s u : ℕ) → limits.segments ≤ 32 →
-    length (answer_line s u (canReachAnswer (under limits t) s u)) ≤ 17
-unfolding answer_line reach_line canReachAnswer
-answer_short limits t s u few = go (is_answered asked) refl (canReachAnswer (under limits t) s u).yes
+    length (answer_line s u (can_reach_answer (under limits t) s u)) ≤ 17
+unfolding answer_line reach_line can_reach_answer
+answer_short limits t s u few = go (is_answered asked) refl (can_reach_answer (under limits t) s u).yes
   where
     asked : Asked
-    asked = canReachAsked (under limits t) s u
+    asked = can_reach_asked (under limits t) s u
 
     end : (y : Bool) → length (yes_end y) ≤ 5
     end true = omega arith
@@ -88,6 +88,6 @@ module _ (limits : Limits) (text words : List ℕ) {w : Words} (e : w ≡ words_
     question_refused r = rw (← e, h, ← f, r)
 
     pub question_answered : is_accepted a.refusal ≡ true →
-        question_of limits text words ≡ answer_line w.from w.to (canReachAnswer (under limits a.tables) w.from w.to)
+        question_of limits text words ≡ answer_line w.from w.to (can_reach_answer (under limits a.tables) w.from w.to)
     unfolding question_of question_line
     question_answered r = rw (← e, h, ← f, r)

@@ -9,7 +9,7 @@ use Rattle.policy.specs.Limits.{single}
 use Rattle.policy.specs.Record.{tables_of}
 use Rattle.policy.specs.Sound.{sound_of}
 use Rattle.policy.proofs.Laws.Bools.{or_both}
-use Rattle.reach.specs.Answers.{canReachAsked, canReachAnswer}
+use Rattle.reach.specs.Answers.{can_reach_asked, can_reach_answer}
 use Rattle.reach.proofs.Laws.Answers.{few, wide, among}
 use Rattle.reach.proofs.question.can_reach.Statement.{statement}
 use Rattle.reach.proofs.question.can_reach.Tie as tie
@@ -18,7 +18,7 @@ passes-test-requires : tie.Need-passes-test-requires
 passes-test-requires c κs = search rules
 
 returns : tie.Need-returns
-unfolding canReachAnswer canReachAsked
+unfolding can_reach_answer can_reach_asked
 returns c = rw (sym c.before.passes-test.ensures ∙ not-true _ c.if1.true)
 
 cast-if2 : tie.Need-overflow-cast-if2
@@ -28,7 +28,7 @@ cast-if2-2 : tie.Need-overflow-cast-if2-2
 cast-if2-2 c = search rules
 
 returns-2 : tie.Need-returns-2
-unfolding canReachAnswer canReachAsked
+unfolding can_reach_answer can_reach_asked
 returns-2 c =
     let sound = c.before in
     rw (sym sound.before.passes-test.ensures ∙ not-false _ sound.if1.false, c.if2.true)
@@ -60,7 +60,7 @@ leads-requires c κs =
     ((segments e).0, (segments e).1, narrow e, wide single t (sound e), among single t (sound e))
 
 returns-3 : tie.Need-returns-3
-unfolding canReachAnswer canReachAsked
+unfolding can_reach_answer can_reach_asked
 returns-3 c =
     let e = c.before.before in
     rw (sound e, e.if2.false, c.leads.ensures)

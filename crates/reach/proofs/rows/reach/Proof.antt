@@ -6,7 +6,7 @@ use borrow.Author.Tests.{not-true, not-false}
 use Rattle.policy.specs.Limits.{single}
 use Rattle.policy.specs.Record.{tables_of}
 use Rattle.policy.specs.Sound.{sound_of}
-use Rattle.reach.specs.Answers.{reachAsked, reachAnswer}
+use Rattle.reach.specs.Answers.{reach_asked, reach_answer}
 use Rattle.reach.proofs.Laws.Answers.{few, wide, rows_are}
 use Rattle.reach.proofs.rows.reach.Statement.{statement}
 use Rattle.reach.proofs.rows.reach.Tie as tie
@@ -15,7 +15,7 @@ passes-test-requires : tie.Need-passes-test-requires
 passes-test-requires c κs = search rules
 
 returns : tie.Need-returns
-unfolding reachAnswer reachAsked
+unfolding reach_answer reach_asked
 returns c = rw (sym c.before.passes-test.ensures ∙ not-true _ c.if1.true)
 
 sound : (c : tie.Else1) → sound_of single (tables_of c.before.before.before.args.policy) ≡ true
@@ -31,7 +31,7 @@ spread-all-requires c κs =
     (few single t (sound e), wide single t (sound e))
 
 returns-2 : tie.Need-returns-2
-unfolding reachAnswer reachAsked
+unfolding reach_answer reach_asked
 returns-2 c =
     let e = c.before.before.before in
     rw (sound e, c.before.spread-all.ensures, rows_are single (tables_of e.before.before.before.args.policy) (sound e))

@@ -4,7 +4,7 @@ use borrow.Author.Rules.{rules}
 use Rattle.policy.specs.Limits.{single}
 use Rattle.policy.specs.Record.{tables_of}
 use Rattle.report.proofs.Laws.Rows.{refused_length}
-use Rattle.reach.specs.Answers.{canReachAnswer}
+use Rattle.reach.specs.Answers.{can_reach_answer}
 use Rattle.reaching.specs.Question.{answer_line}
 use Rattle.reaching.proofs.Laws.Answer.{answered_is, answered_not, asked_small, asked_inside}
 use Rattle.reaching.proofs.answer.put_answer.Statement.{statement}
@@ -41,7 +41,7 @@ returns c =
     rw (← n.before.can-reach.ensures, answered_not _ n.asked-number.ensures i.if1.true, ← n.asked-number.ensures) w.put-row.ensures
 
 put-reach-requires : tie.Need-put-reach-requires
-unfolding canReachAnswer
+unfolding can_reach_answer
 put-reach-requires c κs =
     let i = c.before in
     let n = i.before in
