@@ -1,2 +1,0 @@
--- What the proofs by hand of the readers share.
-pub mod Walk

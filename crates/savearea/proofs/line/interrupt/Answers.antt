@@ -1,0 +1,35 @@
+-- The fields are read before any is put, the line taken is the lowest of those due, and the puts are in the order of the definition.
+use Rattle.machine.specs.Local.{entered, interrupted}
+use borrow.Author.Rules.{rules}
+use Rattle.savearea.proofs.line.interrupt.Goals as goal
+
+pub take_line-taken-requires : goal.take_line-taken-requires
+take_line-taken-requires c = rw (c.byte_at.ensures, c.byte_at-2.ensures) c.requires.0
+
+pub returns : goal.returns
+unfolding interrupted entered
+returns c =
+    let state = c in
+    let inside = state in
+    let counter = inside in
+    let return = counter in
+    let line = return in
+    let pended = line in
+    let taken = pended in
+    let enabled = taken in
+    let lines = enabled in
+    let handler = lines in
+    rw (
+      state.put-3.ensures,
+      inside.put-2.ensures,
+      counter.put_half-2.ensures,
+      return.put_half.ensures,
+      line.put_word.ensures,
+      pended.put.ensures,
+      taken.take_line-taken.ensures.line_value,
+      taken.take_line-taken.ensures.pended_value,
+      enabled.byte_at-2.ensures,
+      lines.byte_at.ensures,
+      handler.get_half-handler.ensures,
+      ← handler.requires.1,
+    )

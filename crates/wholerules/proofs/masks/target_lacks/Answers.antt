@@ -1,0 +1,23 @@
+-- Where no write mask gives t, the partitions have told what is lacking. What is asked for is reached by somebody, so nothing is lacking where all
+-- that is reached is allowed; elsewhere the code asks as the definition does.
+use mathlib.Core.Path.{◌≡◌, sym, ◌∙◌}
+use lib.Bits.{bit_and}
+use borrow.Author.Rules.{rules}
+use borrow.Author.Tests.{eq-eqb, eqb-true, not-true}
+use Rattle.wholerules.proofs.Laws.Asked.{asked_within}
+use Rattle.wholerules.proofs.masks.target_lacks.Goals as goal
+
+pub returns-then-not-has_bit : goal.returns-then-not-has_bit
+returns-then-not-has_bit c =
+    let pre = c.requires in
+    c.has_bit-then-not-has_bit.ensures ∙ pre.t_value (sym c.has_bit.ensures ∙ c.if-not-has_bit.true)
+
+pub returns-then-within : goal.returns-then-within
+returns-then-within c =
+    let start = c in
+    let a = start.args in
+    let all : bit_and a.all.reached a.allowed ≡ a.all.reached = eqb-true _ _ (sym c.within.ensures ∙ c.if-within.true) in
+    rw (eq-eqb _ _ (asked_within a.reached.now a.written.now a.t a.partitions a.allowed (rw start.requires.reached_value at all)))
+
+pub returns : goal.returns
+returns c = rw (c.within-2.ensures, c.asked_into.ensures)
