@@ -17,15 +17,6 @@ short-then row i h s = rw add-one (rw (drop-cons row i 0 h) at s)
 pub loop-i-init : goal.loop-i-init
 loop-i-init c = (omega arith, refl, c.requires.0, ahead_all _ _ _)
 
--- The rest of the buffer has room for all numbers.
-room : (c : goal.At-loop-i) →
-    let w = c in
-    w.put_word-next.result + length (numbers w.args.row.now) ≤ length c.loop-i.out
-room c =
-    let w = c in
-    let s = w in
-    omega (arith, w.put_word-next.ensures.place, written_long w.put_word-next.ensures, s.requires.1, c.loop-i.invariant.1)
-
 pub put_field-next-requires : goal.put_field-next-requires
 put_field-next-requires c =
     let l = c in
@@ -33,7 +24,8 @@ put_field-next-requires c =
     let there = c.loop-i-test.true in
     let a = rw (drop-cons row l.loop-i.i 0 there) at l.loop-i.invariant.3 in
     let e = rw length-append at a.place in
-    ((short-then row l.loop-i.i there l.loop-i.invariant.2).0, omega (arith, e, room l))
+    ((short-then row l.loop-i.i there l.loop-i.invariant.2).0, 
+    omega (arith, e, l.put_word-next.ensures.place, written_long l.put_word-next.ensures, l.requires.1, l.loop-i.invariant.1))
 
 pub loop-i-preserved : goal.loop-i-preserved
 loop-i-preserved c =
@@ -53,7 +45,7 @@ pub put_byte-requires : goal.put_byte-requires
 put_byte-requires c =
     let l = c in
     let a = rw (drop_of_length-le _ c.loop-i-test.false) at l.loop-i.invariant.3 in
-    omega (arith, a.place, room l)
+    omega (arith, a.place, l.put_word-next.ensures.place, written_long l.put_word-next.ensures, l.requires.1, l.loop-i.invariant.1)
 
 pub returns : goal.returns
 returns c =
