@@ -1,0 +1,10 @@
+-- The part that is lent is the save bytes, and comes back in their place.
+use native.Mathlib.Nat.{add-sub_cancel_left}
+use borrow.Author.Rules.{rules}
+use Rattle.parts.proofs.interrupt.Goals as goal
+
+pub interrupt-requires : goal.interrupt-requires
+interrupt-requires c = rw add-sub_cancel_left (c.requires.save_size_in_bounds.1, c.requires.pc_value)
+
+pub returns : goal.returns
+returns c = rw (c.interrupt.ensures, add-sub_cancel_left)

@@ -1,0 +1,9 @@
+-- The part that is lent is the save bytes.
+use native.Mathlib.Nat.{add-sub_cancel_left}
+use Rattle.machine.specs.Local.{is_ready}
+use borrow.Author.Rules.{rules}
+use Rattle.parts.proofs.is_ready.Goals as goal
+
+pub returns : goal.returns
+unfolding is_ready
+returns c = rw (c.byte_at.ensures, add-sub_cancel_left)

@@ -1,0 +1,283 @@
+-- Before each line, what is left to read gives the answer of the whole text (Reached), the mask holds the save segments
+-- (Saves), and the segments have ended (Ended); the text grows shorter with each line. A line that no rule refuses has its
+-- place in the record, and what is stored there is what the line adds.
+use Prim.Native.Nat.{◌-◌, ◌<◌, ◌≤◌}
+use mathlib.Core.Path.{◌≡◌, sym, ◌∙◌, ap}
+use mathlib.Core.Logic.{inl, inr}
+use native.Mathlib.Omega.{arith}
+use borrow.Author.Rules.{rules}
+use borrow.Author.Tests.{not-true, not-false}
+use lib.ListN.{length}
+use Rattle.policy.specs.Draft.{added}
+use Rattle.policy.specs.Order.{key_of}
+use Rattle.policy.specs.Record.{tables_of}
+use Rattle.policy.specs.Tables.{view_of}
+use Rattle.linerules.specs.Parts.{Fits, end_of}
+use Rattle.linerules.proofs.Laws.Fits.{segment_fits, partition_fits, right_fits, flow_fits, slot_fits}
+use Rattle.readlines.proofs.Laws.Answers.{end-record, end-zeros}
+use Rattle.readlines.proofs.Laws.Ends.{Ended, ended_none, ended_more, still}
+use Rattle.readlines.proofs.Laws.Run.{Reached, reached_first}
+use Rattle.readlines.proofs.Laws.Saves.{Saves, barred_with, saves_none, saves_more}
+use Rattle.readlines.proofs.Laws.Stored.{stored_right}
+use Rattle.readlines.proofs.Laws.Step.{step_refused, step_fits, step_more, step_shorter}
+use Rattle.readlines.proofs.lines.read_lines.Goals as goal
+
+pub loop-c-init : goal.loop-c-init
+loop-c-init c = (rw c.zeros-policy.ensures (reached_first _), saves_none _ c.zeros-policy.ensures, ended_none _ c.zeros-policy.ensures)
+
+pub line_from-read-requires : goal.line_from-read-requires
+line_from-read-requires c =
+    let head = c in
+    (head.loop-c.invariant.0.within, omega (arith, head.loop-c.invariant.0.counted, c.loop-c-test.true, head.requires))
+
+pub line_refusal-refusal-requires : goal.line_refusal-refusal-requires
+line_refusal-refusal-requires c =
+    let inv = c.loop-c.invariant in record {
+      segments_le_segments = inv.0.kept.counts.segments;
+      barred = inv.1;
+      ended_by = inv.2;
+    }
+
+pub returns-then-not-is_accepted : goal.returns-then-not-is_accepted
+returns-then-not-is_accepted c =
+    let ruled = c in
+    let line = ruled in
+    c.refused.ensures
+    ∙ step_refused _ _ _ _ _ line.loop-c.invariant.0 line.loop-c-test.true
+    _ _ line.line_from-read.ensures ruled.line_refusal-refusal.ensures
+    (sym c.is_accepted.ensures ∙ c.if-not-is_accepted.true)
+
+-- A line that no rule refuses fits the record.
+fits : (e : goal.Else-not-is_accepted) →
+    Fits (view_of (tables_of e.loop-c.policy))
+    e.line_from-read.result.line
+fits e =
+    let ruled = e in
+    let line = ruled in
+    step_fits _ _ _ _ _ line.loop-c.invariant.0 line.loop-c-test.true
+    _ _ line.line_from-read.ensures ruled.line_refusal-refusal.ensures
+    (sym e.is_accepted.ensures ∙ e.if-not-is_accepted.false)
+
+segment-in : (c : goal.In-Segment) →
+    let g = c.line-1.given.0 in (g.0 < 32) × (g.1.0 < 65536) × (g.1.1.0 < 65536)
+segment-in c = segment_fits _ _ _ _ (rw c.in-Segment.is at (fits c))
+
+partition-in : (c : goal.In-Partition) →
+    let g = c.line-in-Partition-1.given.0 in (g.0 < 8) × (g.1.0 < 32) × (g.1.1.0 < 32)
+partition-in c = partition_fits _ _ _ _ (rw c.in-Partition.is at (fits c))
+
+right-in : (c : goal.In-Right) →
+    let g = c.line-in-Right-1.given.0 in (g.0 < 8) × (g.1.0 < 32)
+right-in c = right_fits _ _ _ _ (rw c.in-Right.is at (fits c))
+
+flow-in : (c : goal.In-Flow) →
+    let g = c.line-in-Flow-1.given.0 in (g.0 < 32) × (g.1.0 < 32)
+flow-in c = flow_fits _ _ _ (rw c.in-Flow.is at (fits c))
+
+slot-in : (c : goal.In-Slot) →
+    let g = c.line-in-Slot-1.given.0 in (c.loop-c.policy.slots < 32) × (g.0 < 8) × (g.1.0 < 65536)
+slot-in c = slot_fits _ _ _ (rw c.in-Slot.is at (fits c))
+
+pub overflow_cast-policy : goal.overflow_cast-policy
+overflow_cast-policy c = omega (arith, segment-in c)
+
+pub overflow_cast-policy-in-Segment : goal.overflow_cast-policy-in-Segment
+overflow_cast-policy-in-Segment c = omega (arith, segment-in c)
+
+pub offset_bounds-policy-id : goal.offset_bounds-policy-id
+offset_bounds-policy-id c = omega (arith, segment-in c)
+
+pub bounds-policy-id : goal.bounds-policy-id
+bounds-policy-id c = omega (arith, segment-in c)
+
+pub overflow_cast-policy-in-Segment-2 : goal.overflow_cast-policy-in-Segment-2
+overflow_cast-policy-in-Segment-2 c = omega (arith, segment-in c)
+
+pub overflow_cast-policy-in-Segment-3 : goal.overflow_cast-policy-in-Segment-3
+overflow_cast-policy-in-Segment-3 c = omega (arith, segment-in c)
+
+pub offset_bounds-policy-id-in-Segment : goal.offset_bounds-policy-id-in-Segment
+offset_bounds-policy-id-in-Segment c = omega (arith, segment-in c)
+
+pub bounds-policy-id-in-Segment : goal.bounds-policy-id-in-Segment
+bounds-policy-id-in-Segment c = omega (arith, segment-in c)
+
+pub overflow_add-policy : goal.overflow_add-policy
+overflow_add-policy c = omega (arith, segment-in c)
+
+pub overflow_cast-policy-in-Segment-4 : goal.overflow_cast-policy-in-Segment-4
+overflow_cast-policy-in-Segment-4 c = omega (arith, segment-in c)
+
+pub end_after-ended-requires : goal.end_after-ended-requires
+end_after-ended-requires c = omega (arith, segment-in c)
+
+pub overflow_cast-policy-in-Partition : goal.overflow_cast-policy-in-Partition
+overflow_cast-policy-in-Partition c = omega (arith, partition-in c)
+
+pub overflow_cast-policy-in-Partition-2 : goal.overflow_cast-policy-in-Partition-2
+overflow_cast-policy-in-Partition-2 c = omega (arith, partition-in c)
+
+pub bounds-policy-id-in-Partition : goal.bounds-policy-id-in-Partition
+bounds-policy-id-in-Partition c = omega (arith, partition-in c)
+
+pub overflow_cast-policy-in-Partition-3 : goal.overflow_cast-policy-in-Partition-3
+overflow_cast-policy-in-Partition-3 c = omega (arith, partition-in c)
+
+pub overflow_cast-policy-in-Partition-4 : goal.overflow_cast-policy-in-Partition-4
+overflow_cast-policy-in-Partition-4 c = omega (arith, partition-in c)
+
+pub bounds-policy-id-in-Partition-2 : goal.bounds-policy-id-in-Partition-2
+bounds-policy-id-in-Partition-2 c = omega (arith, partition-in c)
+
+pub overflow_add-policy-in-Partition : goal.overflow_add-policy-in-Partition
+overflow_add-policy-in-Partition c = omega (arith, partition-in c)
+
+pub overflow_cast-policy-in-Partition-5 : goal.overflow_cast-policy-in-Partition-5
+overflow_cast-policy-in-Partition-5 c = omega (arith, partition-in c)
+
+pub with_low_bit-barred-requires : goal.with_low_bit-barred-requires
+with_low_bit-barred-requires c = (partition-in c).2
+
+pub overflow_cast-p : goal.overflow_cast-p
+overflow_cast-p c = omega (arith, right-in c)
+
+pub offset_bounds-policy-p : goal.offset_bounds-policy-p
+offset_bounds-policy-p c = omega (arith, right-in c)
+
+pub bounds-policy-p : goal.bounds-policy-p
+bounds-policy-p c = omega (arith, right-in c)
+
+pub with_read-requires : goal.with_read-requires
+with_read-requires c = (right-in c).1
+
+pub offset_bounds-policy-p-in-Right : goal.offset_bounds-policy-p-in-Right
+offset_bounds-policy-p-in-Right c = omega (arith, right-in c)
+
+pub bounds-policy-p-in-Right : goal.bounds-policy-p-in-Right
+bounds-policy-p-in-Right c = omega (arith, right-in c)
+
+pub offset_bounds-policy-p-in-Right-2 : goal.offset_bounds-policy-p-in-Right-2
+offset_bounds-policy-p-in-Right-2 c = omega (arith, right-in c)
+
+pub bounds-policy-p-in-Right-2 : goal.bounds-policy-p-in-Right-2
+bounds-policy-p-in-Right-2 c = omega (arith, right-in c)
+
+pub with_write-requires : goal.with_write-requires
+with_write-requires c = (right-in c).1
+
+pub offset_bounds-policy-p-in-Right-3 : goal.offset_bounds-policy-p-in-Right-3
+offset_bounds-policy-p-in-Right-3 c = omega (arith, right-in c)
+
+pub bounds-policy-p-in-Right-3 : goal.bounds-policy-p-in-Right-3
+bounds-policy-p-in-Right-3 c = omega (arith, right-in c)
+
+pub overflow_cast-t : goal.overflow_cast-t
+overflow_cast-t c = omega (arith, flow-in c)
+
+pub offset_bounds-policy-t : goal.offset_bounds-policy-t
+offset_bounds-policy-t c = omega (arith, flow-in c)
+
+pub bounds-policy-t : goal.bounds-policy-t
+bounds-policy-t c = omega (arith, flow-in c)
+
+pub with_low_bit-requires : goal.with_low_bit-requires
+with_low_bit-requires c = (flow-in c).0
+
+pub offset_bounds-policy-t-in-Flow : goal.offset_bounds-policy-t-in-Flow
+offset_bounds-policy-t-in-Flow c = omega (arith, flow-in c)
+
+pub bounds-policy-t-in-Flow : goal.bounds-policy-t-in-Flow
+bounds-policy-t-in-Flow c = omega (arith, flow-in c)
+
+pub overflow_cast-policy-in-Slot : goal.overflow_cast-policy-in-Slot
+overflow_cast-policy-in-Slot c = omega (arith, slot-in c)
+
+pub overflow_cast-policy-in-Slot-2 : goal.overflow_cast-policy-in-Slot-2
+overflow_cast-policy-in-Slot-2 c = omega (arith, slot-in c)
+
+pub bounds-policy-slot : goal.bounds-policy-slot
+bounds-policy-slot c = omega (arith, slot-in c)
+
+pub overflow_cast-policy-in-Slot-3 : goal.overflow_cast-policy-in-Slot-3
+overflow_cast-policy-in-Slot-3 c = omega (arith, slot-in c)
+
+pub overflow_cast-policy-in-Slot-4 : goal.overflow_cast-policy-in-Slot-4
+overflow_cast-policy-in-Slot-4 c = omega (arith, slot-in c)
+
+pub offset_bounds-policy-slot : goal.offset_bounds-policy-slot
+offset_bounds-policy-slot c = omega (arith, slot-in c)
+
+pub bounds-policy-slot-in-Slot : goal.bounds-policy-slot-in-Slot
+bounds-policy-slot-in-Slot c = omega (arith, slot-in c)
+
+pub overflow_add-policy-in-Slot : goal.overflow_add-policy-in-Slot
+overflow_add-policy-in-Slot c = omega (arith, slot-in c)
+
+-- What the arms store is what the line adds, and the line stays what it was. A partition line sets the bit of its save
+-- segment; the end only grows, and a segment line's own is not past it.
+arms : (c : goal.Joined-line) →
+    let was = c.loop-c in
+    let line = c.line_from-read.result.line in
+    (tables_of c.match-line.policy ≡ added (tables_of was.policy) line)
+    × (c.match-line.line ≡ line)
+    × (c.match-line.barred ≡ barred_with was.barred line)
+    × ((was.ended ≤ c.match-line.ended) × (end_of line ≤ c.match-line.ended))
+unfolding added
+arms c =
+    let was = c.loop-c.policy in
+    elim c.match-line.branch [
+      | inl a ↦ rw a.1.given.1 (ap tables_of a.2, a.5 ∙ a.1.given.1, a.3, still _ _ a.4)
+      | inr (inl a) ↦ rw a.1.given.1 (ap tables_of a.4, a.7, a.5, rw a.6 a.3.ensures)
+      | inr (inr (inl a)) ↦ rw a.1.given.1 (ap tables_of a.4, a.7, a.5 ∙ a.3.ensures, still _ _ a.6)
+      | inr (inr (inr (inl a))) ↦
+          let g = a.1.given.0 in
+          let masks = stored_right was g.0 g.1.0 g.1.1.0 _ _ a.4.ensures a.6.ensures in
+          rw a.1.given.1 (ap tables_of a.7 ∙ masks, a.10, a.8, still _ _ a.9)
+      | inr (inr (inr (inr (inl a)))) ↦ rw a.1.given.1 (ap tables_of a.5 ∙ rw a.4.ensures, a.8, a.6, still _ _ a.7)
+      | inr (inr (inr (inr (inr a)))) ↦ rw a.1.given.1 (ap tables_of a.3, a.6, a.4, still _ _ a.5)
+    ]
+
+pub loop-c-smaller : goal.loop-c-smaller
+loop-c-smaller c =
+    let ruled = c in
+    let line = ruled in
+    omega (
+      arith,
+      line.loop-c-test.true,
+      step_shorter _ _ _ _ _ line.loop-c.invariant.0 line.loop-c-test.true
+          _ _ line.line_from-read.ensures ruled.line_refusal-refusal.ensures
+          (sym c.is_accepted.ensures ∙ c.if-not-is_accepted.false),
+    )
+
+pub loop-c-preserved : goal.loop-c-preserved
+loop-c-preserved c =
+    let came = c in
+    let ruled = came in
+    let line = ruled in
+    let inv = line.loop-c.invariant in
+    let arm = arms came in (
+      step_more _ _ _ _ _ inv.0 line.loop-c-test.true
+          _ _ line.line_from-read.ensures ruled.line_refusal-refusal.ensures
+          _ _ (sym came.is_accepted.ensures ∙ came.if-not-is_accepted.false)
+          arm.0 (c.key_of-before.ensures ∙ ap key_of arm.1),
+      saves_more _ _ inv.0.kept.lengths inv.1 _ (fits came) _ arm.2 _ arm.0,
+      ended_more _ _ _ inv.0.kept.lengths inv.2 arm.3.0 _ (fits came) arm.3.1 _ arm.0,
+    )
+
+pub record_refusal-refusal-requires : goal.record_refusal-refusal-requires
+record_refusal-refusal-requires c =
+    let counts = c.loop-c.invariant.0.kept.counts in
+    ((counts.segments, counts.partitions), search rules)
+
+pub returns-then-is_accepted : goal.returns-then-is_accepted
+returns-then-is_accepted c =
+    let end = c in
+    end-record _ _ _ _ _ end.loop-c.invariant.0 end.loop-c-test.false _ c.record_refusal-refusal.ensures
+    (sym c.is_accepted-2.ensures ∙ c.if-is_accepted.true)
+
+pub returns : goal.returns
+returns c =
+    let end = c in
+    c.refused-2.ensures
+    ∙ end-zeros _ _ _ _ _ end.loop-c.invariant.0 end.loop-c-test.false _ c.record_refusal-refusal.ensures
+    (sym c.is_accepted-2.ensures ∙ c.if-is_accepted.false)

@@ -1,0 +1,10 @@
+-- The test is the definition's.
+use borrow.Author.Rules.{rules}
+use borrow.Author.Tests.{lt-ltb, le-ltb}
+use Rattle.schedule.proofs.place.next_turn.Goals as goal
+
+pub returns-then-next-slots : goal.returns-then-next-slots
+returns-then-next-slots c = rw (lt-ltb _ _ c.if-next-slots.true, c.half_at.ensures)
+
+pub returns : goal.returns
+returns c = rw (le-ltb _ _ c.if-next-slots.false, c.half_at-2.ensures)

@@ -1,0 +1,6 @@
+-- What the slot has used is taken from what it has.
+use borrow.Author.Rules.{rules}
+use Rattle.schedule.proofs.place.turn_at.Goals as goal
+
+pub returns : goal.returns
+returns c = rw c.half_at-whole.ensures

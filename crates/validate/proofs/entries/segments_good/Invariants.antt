@@ -1,0 +1,16 @@
+-- The loop stops at the first segment that fails; the invariant: each before i passes, and they have ended.
+use Prim.Native.Nat.{◌-◌}
+use mathlib.Core.List.{[]}
+use native.Mathlib.Omega.{arith}
+use borrow.Author.Rules.{rules}
+use Rattle.policy.specs.Limits.{single}
+use Rattle.policy.specs.Sound.{good_segment}
+use Rattle.linerules.specs.Parts.{EndedBy, placed}
+use Rattle.policy.proofs.Laws.Loops.{Tested, test_none, test_found, test_more, test_done}
+use Rattle.validate.proofs.entries.segments_good.Given as goal
+
+abbrev pub invariant-loop-i : goal.invariant-loop-i
+invariant-loop-i l = Tested l.segments (good_segment single (placed 0 0 l.base l.size [] [])) l.i × EndedBy l.base l.size l.i l.end
+
+abbrev pub decreases-loop-i : goal.decreases-loop-i
+decreases-loop-i l = l.segments - l.i
