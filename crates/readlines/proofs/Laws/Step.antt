@@ -2,7 +2,7 @@
 -- those of the definition.
 use Prim.Native.Nat.{ℕ, ◌<◌}
 use mathlib.Core.Path.{◌≡◌, sym, ◌∙◌, ap}
-use mathlib.Core.Bool.{true, false, ◌||◌}
+use mathlib.Core.Bool.{Bool, true, false, ◌||◌}
 use mathlib.Core.List.{List}
 use lib.ListN.{length}
 use Rattle.text.specs.Lines.{lines_of}
@@ -60,6 +60,11 @@ module _ (text : List ℕ) (tables : Tables) (before : Key) (at n : ℕ) (r : Re
         few_partitions = r.kept.counts.partitions;
         few_slots = r.kept.counts.slots;
       }
+
+  -- The line is given, and what the code answered.
+  pub line_fits : (line : Line) (accepted : Bool) → accepted ≡ is_accepted refusal → accepted ≡ true → read.line ≡ line →
+      Fits (view_of tables) line
+  line_fits line accepted e h is = rw is at (step_fits (sym e ∙ h))
 
   pub step_more :
       (next : Tables) (key : Key) → is_accepted refusal ≡ true → next ≡ added tables read.line

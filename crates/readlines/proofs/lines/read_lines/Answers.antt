@@ -19,8 +19,9 @@ use Rattle.readlines.proofs.Laws.Ends.{Ended, ended_none, ended_more, still}
 use Rattle.readlines.proofs.Laws.Run.{Reached, reached_first}
 use Rattle.readlines.proofs.Laws.Saves.{Saves, barred_with, saves_none, saves_more}
 use Rattle.readlines.proofs.Laws.Stored.{stored_right}
-use Rattle.readlines.proofs.Laws.Step.{step_refused, step_fits, step_more, step_shorter}
+use Rattle.readlines.proofs.Laws.Step.{step_refused, step_fits, line_fits, step_more, step_shorter}
 use Rattle.readlines.proofs.lines.read_lines.Goals as goal
+use Rattle.readlines.proofs.lines.read_lines.Goals.{in-Bad, in-Segment, in-Partition, in-Right, in-Flow, in-Slot}
 
 pub loop-c-init : goal.loop-c-init
 loop-c-init c = (rw c.zeros-policy.ensures (reached_first _), saves_none _ c.zeros-policy.ensures, ended_none _ c.zeros-policy.ensures)
@@ -48,35 +49,25 @@ returns-then-not-is_accepted c =
     (sym c.is_accepted.ensures ∙ c.if-not-is_accepted.true)
 
 -- A line that no rule refuses fits the record.
-fits : (e : goal.Else-not-is_accepted) →
-    Fits (view_of (tables_of e.loop-c.policy))
-    e.line_from-read.result.line
-fits e =
-    let ruled = e in
-    let line = ruled in
-    step_fits _ _ _ _ _ line.loop-c.invariant.0 line.loop-c-test.true
-    _ _ line.line_from-read.ensures ruled.line_refusal-refusal.ensures
-    (sym e.is_accepted.ensures ∙ e.if-not-is_accepted.false)
+segment-in : (c : goal.In-Segment) → (c.in-Segment.id < 32) × (c.in-Segment.base < 65536) × (c.in-Segment.size < 65536)
+segment-in c = segment_fits _ _ _ _ (line_fits _ _ _ _ _ c.loop-c.invariant.0 c.loop-c-test.true _ _ c.line_from-read.ensures
+    c.line_refusal-refusal.ensures _ _ c.is_accepted.ensures c.if-not-is_accepted.false c.in-Segment.is)
 
-segment-in : (c : goal.In-Segment) →
-    let g = c.line-1.given.0 in (g.0 < 32) × (g.1.0 < 65536) × (g.1.1.0 < 65536)
-segment-in c = segment_fits _ _ _ _ (rw c.in-Segment.is at (fits c))
+partition-in : (c : goal.In-Partition) → (c.in-Partition.id < 8) × (c.in-Partition.code < 32) × (c.in-Partition.save < 32)
+partition-in c = partition_fits _ _ _ _ (line_fits _ _ _ _ _ c.loop-c.invariant.0 c.loop-c-test.true _ _ c.line_from-read.ensures
+    c.line_refusal-refusal.ensures _ _ c.is_accepted.ensures c.if-not-is_accepted.false c.in-Partition.is)
 
-partition-in : (c : goal.In-Partition) →
-    let g = c.line-in-Partition-1.given.0 in (g.0 < 8) × (g.1.0 < 32) × (g.1.1.0 < 32)
-partition-in c = partition_fits _ _ _ _ (rw c.in-Partition.is at (fits c))
+right-in : (c : goal.In-Right) → (c.in-Right.partition < 8) × (c.in-Right.segment < 32)
+right-in c = right_fits _ _ _ _ (line_fits _ _ _ _ _ c.loop-c.invariant.0 c.loop-c-test.true _ _ c.line_from-read.ensures
+    c.line_refusal-refusal.ensures _ _ c.is_accepted.ensures c.if-not-is_accepted.false c.in-Right.is)
 
-right-in : (c : goal.In-Right) →
-    let g = c.line-in-Right-1.given.0 in (g.0 < 8) × (g.1.0 < 32)
-right-in c = right_fits _ _ _ _ (rw c.in-Right.is at (fits c))
+flow-in : (c : goal.In-Flow) → (c.in-Flow.from < 32) × (c.in-Flow.to < 32)
+flow-in c = flow_fits _ _ _ (line_fits _ _ _ _ _ c.loop-c.invariant.0 c.loop-c-test.true _ _ c.line_from-read.ensures
+    c.line_refusal-refusal.ensures _ _ c.is_accepted.ensures c.if-not-is_accepted.false c.in-Flow.is)
 
-flow-in : (c : goal.In-Flow) →
-    let g = c.line-in-Flow-1.given.0 in (g.0 < 32) × (g.1.0 < 32)
-flow-in c = flow_fits _ _ _ (rw c.in-Flow.is at (fits c))
-
-slot-in : (c : goal.In-Slot) →
-    let g = c.line-in-Slot-1.given.0 in (c.loop-c.policy.slots < 32) × (g.0 < 8) × (g.1.0 < 65536)
-slot-in c = slot_fits _ _ _ (rw c.in-Slot.is at (fits c))
+slot-in : (c : goal.In-Slot) → (c.loop-c.policy.slots < 32) × (c.in-Slot.partition < 8) × (c.in-Slot.ticks < 65536)
+slot-in c = slot_fits _ _ _ (line_fits _ _ _ _ _ c.loop-c.invariant.0 c.loop-c-test.true _ _ c.line_from-read.ensures
+    c.line_refusal-refusal.ensures _ _ c.is_accepted.ensures c.if-not-is_accepted.false c.in-Slot.is)
 
 pub overflow_cast-policy : goal.overflow_cast-policy
 overflow_cast-policy c = omega (arith, segment-in c)
@@ -148,28 +139,52 @@ pub bounds-policy-p : goal.bounds-policy-p
 bounds-policy-p c = omega (arith, right-in c)
 
 pub with_read-requires : goal.with_read-requires
-with_read-requires c = (right-in c).1
+with_read-requires c =
+    let f = line_fits _ _ _ _ _ c.loop-c.invariant.0 c.loop-c-test.true _ _ c.line_from-read.ensures
+    c.line_refusal-refusal.ensures _ _ c.is_accepted.ensures c.if-not-is_accepted.false c.in-Right.is in
+    omega (arith, right_fits _ _ _ _ f)
 
 pub offset_bounds-policy-p-in-Right : goal.offset_bounds-policy-p-in-Right
-offset_bounds-policy-p-in-Right c = omega (arith, right-in c)
+offset_bounds-policy-p-in-Right c =
+    let f = line_fits _ _ _ _ _ c.loop-c.invariant.0 c.loop-c-test.true _ _ c.line_from-read.ensures
+    c.line_refusal-refusal.ensures _ _ c.is_accepted.ensures c.if-not-is_accepted.false c.in-Right.is in
+    omega (arith, right_fits _ _ _ _ f)
 
 pub bounds-policy-p-in-Right : goal.bounds-policy-p-in-Right
-bounds-policy-p-in-Right c = omega (arith, right-in c)
+bounds-policy-p-in-Right c =
+    let f = line_fits _ _ _ _ _ c.loop-c.invariant.0 c.loop-c-test.true _ _ c.line_from-read.ensures
+    c.line_refusal-refusal.ensures _ _ c.is_accepted.ensures c.if-not-is_accepted.false c.in-Right.is in
+    omega (arith, right_fits _ _ _ _ f)
 
 pub offset_bounds-policy-p-in-Right-2 : goal.offset_bounds-policy-p-in-Right-2
-offset_bounds-policy-p-in-Right-2 c = omega (arith, right-in c)
+offset_bounds-policy-p-in-Right-2 c =
+    let f = line_fits _ _ _ _ _ c.loop-c.invariant.0 c.loop-c-test.true _ _ c.line_from-read.ensures
+    c.line_refusal-refusal.ensures _ _ c.is_accepted.ensures c.if-not-is_accepted.false c.in-Right.is in
+    omega (arith, right_fits _ _ _ _ f)
 
 pub bounds-policy-p-in-Right-2 : goal.bounds-policy-p-in-Right-2
-bounds-policy-p-in-Right-2 c = omega (arith, right-in c)
+bounds-policy-p-in-Right-2 c =
+    let f = line_fits _ _ _ _ _ c.loop-c.invariant.0 c.loop-c-test.true _ _ c.line_from-read.ensures
+    c.line_refusal-refusal.ensures _ _ c.is_accepted.ensures c.if-not-is_accepted.false c.in-Right.is in
+    omega (arith, right_fits _ _ _ _ f)
 
 pub with_write-requires : goal.with_write-requires
-with_write-requires c = (right-in c).1
+with_write-requires c =
+    let f = line_fits _ _ _ _ _ c.loop-c.invariant.0 c.loop-c-test.true _ _ c.line_from-read.ensures
+    c.line_refusal-refusal.ensures _ _ c.is_accepted.ensures c.if-not-is_accepted.false c.in-Right.is in
+    omega (arith, right_fits _ _ _ _ f)
 
 pub offset_bounds-policy-p-in-Right-3 : goal.offset_bounds-policy-p-in-Right-3
-offset_bounds-policy-p-in-Right-3 c = omega (arith, right-in c)
+offset_bounds-policy-p-in-Right-3 c =
+    let f = line_fits _ _ _ _ _ c.loop-c.invariant.0 c.loop-c-test.true _ _ c.line_from-read.ensures
+    c.line_refusal-refusal.ensures _ _ c.is_accepted.ensures c.if-not-is_accepted.false c.in-Right.is in
+    omega (arith, right_fits _ _ _ _ f)
 
 pub bounds-policy-p-in-Right-3 : goal.bounds-policy-p-in-Right-3
-bounds-policy-p-in-Right-3 c = omega (arith, right-in c)
+bounds-policy-p-in-Right-3 c =
+    let f = line_fits _ _ _ _ _ c.loop-c.invariant.0 c.loop-c-test.true _ _ c.line_from-read.ensures
+    c.line_refusal-refusal.ensures _ _ c.is_accepted.ensures c.if-not-is_accepted.false c.in-Right.is in
+    omega (arith, right_fits _ _ _ _ f)
 
 pub overflow_cast-t : goal.overflow_cast-t
 overflow_cast-t c = omega (arith, flow-in c)
@@ -181,13 +196,22 @@ pub bounds-policy-t : goal.bounds-policy-t
 bounds-policy-t c = omega (arith, flow-in c)
 
 pub with_low_bit-requires : goal.with_low_bit-requires
-with_low_bit-requires c = (flow-in c).0
+with_low_bit-requires c =
+    let f = line_fits _ _ _ _ _ c.loop-c.invariant.0 c.loop-c-test.true _ _ c.line_from-read.ensures
+    c.line_refusal-refusal.ensures _ _ c.is_accepted.ensures c.if-not-is_accepted.false c.in-Flow.is in
+    omega (arith, flow_fits _ _ _ f)
 
 pub offset_bounds-policy-t-in-Flow : goal.offset_bounds-policy-t-in-Flow
-offset_bounds-policy-t-in-Flow c = omega (arith, flow-in c)
+offset_bounds-policy-t-in-Flow c =
+    let f = line_fits _ _ _ _ _ c.loop-c.invariant.0 c.loop-c-test.true _ _ c.line_from-read.ensures
+    c.line_refusal-refusal.ensures _ _ c.is_accepted.ensures c.if-not-is_accepted.false c.in-Flow.is in
+    omega (arith, flow_fits _ _ _ f)
 
 pub bounds-policy-t-in-Flow : goal.bounds-policy-t-in-Flow
-bounds-policy-t-in-Flow c = omega (arith, flow-in c)
+bounds-policy-t-in-Flow c =
+    let f = line_fits _ _ _ _ _ c.loop-c.invariant.0 c.loop-c-test.true _ _ c.line_from-read.ensures
+    c.line_refusal-refusal.ensures _ _ c.is_accepted.ensures c.if-not-is_accepted.false c.in-Flow.is in
+    omega (arith, flow_fits _ _ _ f)
 
 pub overflow_cast-policy-in-Slot : goal.overflow_cast-policy-in-Slot
 overflow_cast-policy-in-Slot c = omega (arith, slot-in c)
@@ -213,30 +237,6 @@ bounds-policy-slot-in-Slot c = omega (arith, slot-in c)
 pub overflow_add-policy-in-Slot : goal.overflow_add-policy-in-Slot
 overflow_add-policy-in-Slot c = omega (arith, slot-in c)
 
--- What the arms store is what the line adds, and the line stays what it was. A partition line sets the bit of its save
--- segment; the end only grows, and a segment line's own is not past it.
-arms : (c : goal.Joined-line) →
-    let was = c.loop-c in
-    let line = c.line_from-read.result.line in
-    (tables_of c.match-line.policy ≡ added (tables_of was.policy) line)
-    × (c.match-line.line ≡ line)
-    × (c.match-line.barred ≡ barred_with was.barred line)
-    × ((was.ended ≤ c.match-line.ended) × (end_of line ≤ c.match-line.ended))
-unfolding added
-arms c =
-    let was = c.loop-c.policy in
-    elim c.match-line.branch [
-      | inl a ↦ rw a.1.given.1 (ap tables_of a.2, a.5 ∙ a.1.given.1, a.3, still _ _ a.4)
-      | inr (inl a) ↦ rw a.1.given.1 (ap tables_of a.4, a.7, a.5, rw a.6 a.3.ensures)
-      | inr (inr (inl a)) ↦ rw a.1.given.1 (ap tables_of a.4, a.7, a.5 ∙ a.3.ensures, still _ _ a.6)
-      | inr (inr (inr (inl a))) ↦
-          let g = a.1.given.0 in
-          let masks = stored_right was g.0 g.1.0 g.1.1.0 _ _ a.4.ensures a.6.ensures in
-          rw a.1.given.1 (ap tables_of a.7 ∙ masks, a.10, a.8, still _ _ a.9)
-      | inr (inr (inr (inr (inl a)))) ↦ rw a.1.given.1 (ap tables_of a.5 ∙ rw a.4.ensures, a.8, a.6, still _ _ a.7)
-      | inr (inr (inr (inr (inr a)))) ↦ rw a.1.given.1 (ap tables_of a.3, a.6, a.4, still _ _ a.5)
-    ]
-
 pub loop-c-smaller : goal.loop-c-smaller
 loop-c-smaller c =
     let ruled = c in
@@ -249,25 +249,44 @@ loop-c-smaller c =
           (sym c.is_accepted.ensures ∙ c.if-not-is_accepted.false),
     )
 
+-- What the arms store is what the line adds, and the line stays what it was. A partition line sets the bit of its save
+-- segment; the end only grows, and a segment line's own is not past it.
 pub loop-c-preserved : goal.loop-c-preserved
+unfolding added
 loop-c-preserved c =
-    let came = c in
-    let ruled = came in
-    let line = ruled in
-    let inv = line.loop-c.invariant in
-    let arm = arms came in (
-      step_more _ _ _ _ _ inv.0 line.loop-c-test.true
-          _ _ line.line_from-read.ensures ruled.line_refusal-refusal.ensures
-          _ _ (sym came.is_accepted.ensures ∙ came.if-not-is_accepted.false)
-          arm.0 (c.key_of-before.ensures ∙ ap key_of arm.1),
-      saves_more _ _ inv.0.kept.lengths inv.1 _ (fits came) _ arm.2 _ arm.0,
-      ended_more _ _ _ inv.0.kept.lengths inv.2 arm.3.0 _ (fits came) arm.3.1 _ arm.0,
+    let was = c.loop-c in
+    let line = c.line_from-read.result.line in
+    let inv = was.invariant in
+    let accepted = sym c.is_accepted.ensures ∙ c.if-not-is_accepted.false in
+    let fits = step_fits _ _ _ _ _ inv.0 c.loop-c-test.true _ _ c.line_from-read.ensures c.line_refusal-refusal.ensures accepted in
+    let arm :
+    (tables_of c.match-line.policy ≡ added (tables_of was.policy) line)
+    × (c.match-line.line ≡ line)
+    × (c.match-line.barred ≡ barred_with was.barred line)
+    × ((was.ended ≤ c.match-line.ended) × (end_of line ≤ c.match-line.ended)) =
+    elim c.match-line.branch [
+      | in-Bad w ↦ rw w.in-Bad.is (ap tables_of w.policy-is, w.line-is ∙ w.in-Bad.is, w.barred-is, still _ _ w.ended-is)
+      | in-Segment w ↦ rw w.in-Segment.is (ap tables_of w.policy-is, w.line-is, w.barred-is, rw w.ended-is w.end_after-ended.ensures)
+      | in-Partition w ↦
+          rw w.in-Partition.is
+          (ap tables_of w.policy-is, w.line-is, w.barred-is ∙ w.with_low_bit-barred.ensures, still _ _ w.ended-is)
+      | in-Right w ↦
+          let masks = stored_right was.policy w.in-Right.partition w.in-Right.segment w.in-Right.mode _ _ w.with_read.ensures w.with_write.ensures in
+          rw w.in-Right.is (ap tables_of w.policy-is ∙ masks, w.line-is, w.barred-is, still _ _ w.ended-is)
+      | in-Flow w ↦
+          rw w.in-Flow.is (ap tables_of w.policy-is ∙ rw w.with_low_bit.ensures, w.line-is, w.barred-is, still _ _ w.ended-is)
+      | in-Slot w ↦ rw w.in-Slot.is (ap tables_of w.policy-is, w.line-is, w.barred-is, still _ _ w.ended-is)
+    ] in (
+      step_more _ _ _ _ _ inv.0 c.loop-c-test.true _ _ c.line_from-read.ensures c.line_refusal-refusal.ensures
+          _ _ accepted arm.0 (c.key_of-before.ensures ∙ ap key_of arm.1),
+      saves_more _ _ inv.0.kept.lengths inv.1 _ fits _ arm.2 _ arm.0,
+      ended_more _ _ _ inv.0.kept.lengths inv.2 arm.3.0 _ fits arm.3.1 _ arm.0,
     )
 
 pub record_refusal-refusal-requires : goal.record_refusal-refusal-requires
 record_refusal-refusal-requires c =
     let counts = c.loop-c.invariant.0.kept.counts in
-    ((counts.segments, counts.partitions), search rules)
+    record { segments_bound = (counts.segments, counts.partitions); code_len = search rules; reads_len = search rules }
 
 pub returns-then-is_accepted : goal.returns-then-is_accepted
 returns-then-is_accepted c =
