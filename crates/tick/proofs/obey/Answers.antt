@@ -3,7 +3,7 @@
 use native.Mathlib.Nat.{add-sub_cancel_left}
 use Rattle.machine.specs.Tick.{executes, obeys}
 use Rattle.parts.proofs.Laws.Counters.{hands_back, hands_fault}
-use Rattle.tick.proofs.Laws.Alone.{acts_alone}
+use Rattle.tick.proofs.Laws.Alone.{IsAlone, acts_alone}
 use borrow.Author.Rules.{rules}
 use Rattle.tick.proofs.obey.Goals as goal
 
@@ -95,7 +95,7 @@ unfolding obeys executes
 returns-in-StoreWord c =
     let call = c in
     let arm = call in
-    let e = call.Store-word.ensures in
+    let e = call.store_word.ensures in
     (rw (arm.in-Runs.is, arm.in-StoreWord.is) (e.0 _), e.1)
 
 pub returns-in_default-i : goal.returns-in_default-i
@@ -103,9 +103,11 @@ unfolding obeys
 returns-in_default-i c =
     let act = c in
     let arm = act in
-    let other = arm.in_default-i.keys5 in
+    let d = arm.in_default-i in
+    let other : IsAlone arm.in-Runs.i =
+    record { no_load = d.not-Load; no_store = d.not-Store; no_load_word = d.not-LoadWord; no_store_word = d.not-StoreWord } in
     let p = arm.requires in
-    let long = rw add-sub_cancel_left at act.act.auto.0 in (
+    let long = rw add-sub_cancel_left at act.act.auto.s in (
       rw (arm.in-Runs.is, act.act.ensures.0, add-sub_cancel_left, acts_alone),
       rw add-sub_cancel_left (hands_back _ _ p.save_size_in_bounds _ long _ (rw add-sub_cancel_left at act.act.ensures.1)),
     )
