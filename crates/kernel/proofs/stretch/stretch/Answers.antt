@@ -1,0 +1,137 @@
+-- Each turn is an interrupt or none, and some ticks more of the partition, the first at the count that the last turn left. Where it is no longer able,
+-- those that are left do nothing.
+use Rattle.std.proofs.Common.{◌≡◌, ℕ, ◌+◌, ◌≤◌, true, List, length, sym, refl, ◌∙◌, lt_of_lt_of_le, arith, rules}
+use borrow.Author.Tests.{not-true, not-false}
+use Rattle.machine.specs.Tick.{Seat}
+use Rattle.machine.specs.Local.{is_able}
+use Rattle.parts.specs.Parts.{saved_at}
+use Rattle.tick.specs.Seat.{seat_of}
+use Rattle.tick.proofs.Laws.Reach.{save_inside}
+use Rattle.kernel.proofs.Laws.Ticks.{Going, none_yet, went_on, all_done, idle_rest, to_code}
+use Rattle.kernel.proofs.stretch.stretch.Goals as goal
+
+pub bounds-base-save : goal.bounds-base-save
+bounds-base-save c =
+    let p = c.requires.seated.0 in
+    lt_of_lt_of_le p.save_there p.every.base_there
+
+pub bounds-base-code : goal.bounds-base-code
+bounds-base-code c =
+    let p = c.requires.seated.0 in
+    lt_of_lt_of_le p.code_there p.every.base_there
+
+pub bounds-size-code : goal.bounds-size-code
+bounds-size-code c =
+    let p = c.requires.seated.0 in
+    lt_of_lt_of_le p.code_there p.every.size_there
+
+pub loop-left-init : goal.loop-left-init
+loop-left-init c =
+    let w = c in
+    (refl, none_yet _ _ _ _ _ _ _, rw w.wide-from.ensures w.requires.save_value)
+
+abbrev Loop : Type 0
+Loop = goal.At-loop-left
+
+abbrev seatAt : Loop → Seat
+seatAt h =
+    let a = h.before.before.before.before.before.before.before.before.before.before.before.args in
+    seat_of a.base.now a.size.now a.reads a.writes a.segments
+
+-- With so many ticks left and this memory, of the stretch whose loop this is.
+abbrev GoingAt : Loop → ℕ → List ℕ → Type 0
+GoingAt h left memory =
+    let a = h.before.before.before.before.before.before.before.before.before.before.before.args in
+    Going (seatAt h) h.before.before.before.before.before.before.wide.result h.before.before.before.before.wide2.result
+    h.before.before.wide3.result a.count a.n a.memory.now left memory
+
+took : (g : goal.After-take_interrupt-left) → GoingAt g g.take_interrupt-left.result g.take_interrupt-left.new.0
+took g =
+    let h = g in
+    let e = g.take_interrupt-left.ensures in
+    went_on _ _ _ _ _ _ _ _ _ _ _ _ (search rules) e.0 h.wrapping_add_u32-end.ensures.value h.loop-left.invariant.1 (λ k _ _. e.2 _ _ _ k)
+
+abbrev loop_of : goal.After-ready_ticks-left → Loop
+loop_of g = g
+
+went : (g : goal.After-ready_ticks-left) → GoingAt (loop_of g) g.ready_ticks-left.result g.ready_ticks-left.new.0
+went g =
+    let h = loop_of g in
+    let e = g.ready_ticks-left.ensures in
+    went_on _ _ _ _ _ _ _ _ _ _ _ _ (search rules) (omega (arith, e.0)) h.wrapping_add_u32-end.ensures.value (took g) e.1
+
+pub take_interrupt-left-requires : goal.take_interrupt-left-requires
+take_interrupt-left-requires c =
+    let h = c in
+    let w = h in record {
+      save_size_in_bounds = rw (h.loop-left.invariant.0, w.wide-from.ensures) (save_inside w.requires.seated.0);
+      from_value = (h.loop-left.invariant.2, c.loop-left-test.true);
+    }
+
+pub returns-then-left-eq0 : goal.returns-then-left-eq0
+returns-then-left-eq0 c =
+    let g = c in
+    let r = g in
+    to_code _ _ _ _ _ _ _ _ _ _ r.wide-from.ensures r.wide-start.ensures r.wide-room.ensures
+    (all_done _ _ _ _ _ _ _ _ _ (omega (arith, c.if-left-eq0.true)) (took g))
+
+pub ready_ticks-left-requires : goal.ready_ticks-left-requires
+ready_ticks-left-requires c =
+    let g = c in
+    let h = g in
+    let r = h in
+    let w = r in
+    let p = w.requires.seated in
+    let few = p.1 in
+    let long = g.take_interrupt-left.auto.0 in record {
+      save_size_in_bounds = (
+        rw (long, h.loop-left.invariant.0, w.wide-from.ensures) (save_inside p.0),
+        rw (long, h.loop-left.invariant.0, r.wide-start.ensures, r.wide-room.ensures) (p.0.every.inside _ p.0.code_there),
+      );
+      inside = rw (long, h.loop-left.invariant.0) p.0.every;
+      from_value = (g.take_interrupt-left.ensures.1, omega (arith, c.if-left-eq0.false), omega (arith, few, (took g).most));
+    }
+
+pub returns-then-left-eq0-2 : goal.returns-then-left-eq0-2
+returns-then-left-eq0-2 c =
+    let g = c in
+    let r = (loop_of g) in
+    to_code _ _ _ _ _ _ _ _ _ _ r.wide-from.ensures r.wide-start.ensures r.wide-room.ensures
+    (all_done _ _ _ _ _ _ _ _ _ (omega (arith, c.if-left-eq0-2.true)) (went g))
+
+still : (from first long₃ long₂ long₁ long : ℕ) → from ≡ first → long₃ ≡ long₂ → long₂ ≡ long₁ → long₁ ≡ long → first + 44 ≤ long → from + 44 ≤ long₃
+still from first long₃ long₂ long₁ long a b c d e = omega arith
+
+pub is_able-requires : goal.is_able-requires
+is_able-requires c =
+    let g = c in
+    let h = loop_of g in
+    let w = h in
+    let t = g in
+    still _ _ _ (length t.take_interrupt-left.new.0) _ _ w.wide-from.ensures g.ready_ticks-left.auto.0 t.take_interrupt-left.auto.0 h.loop-left.inv.0
+    (save_inside w.pre.0.0)
+
+pub returns-then-not-is_able : goal.returns-then-not-is_able
+returns-then-not-is_able c =
+    let g = c in
+    let r = (loop_of g) in
+    let w = r in
+    to_code _ _ _ _ _ _ _ _ _ _ w.wide-from.ensures r.wide-start.ensures r.wide-room.ensures
+    (idle_rest _ _ _ _ _ _ _ _ _ (search (rules, w.fits)) (went g) (sym c.is_able.ensures ∙ c.if-not-is_able.true))
+
+pub loop-left-smaller : goal.loop-left-smaller
+loop-left-smaller c =
+    let g = c in
+    omega (arith, g.ready_ticks-left.ensures.0, g.take_interrupt-left.ensures.0)
+
+pub loop-left-preserved : goal.loop-left-preserved
+loop-left-preserved c = (search rules, went c, sym c.is_able.ensures ∙ c.if-not-is_able.false)
+
+pub shape_of-memory : goal.shape_of-memory
+shape_of-memory c = c.loop-left.invariant.0
+
+pub returns : goal.returns
+returns c =
+    let r = c in
+    to_code _ _ _ _ _ _ _ _ _ _ r.wide-from.ensures r.wide-start.ensures r.wide-room.ensures
+    (all_done _ _ _ _ _ _ _ _ _ (omega (arith, c.loop-left-test.false)) c.loop-left.invariant.1)

@@ -1,0 +1,19 @@
+-- Each turn is an interrupt or none, and some ticks more of the partition, the first at the count that the last turn left. Where it is no longer able,
+-- those that are left do nothing.
+use Rattle.std.proofs.Common.{◌≡◌, ℕ, ◌+◌, ◌≤◌, true, List, length, sym, refl, ◌∙◌, lt_of_lt_of_le, arith, rules}
+use borrow.Author.Tests.{not-true, not-false}
+use Rattle.machine.specs.Tick.{Seat}
+use Rattle.machine.specs.Local.{is_able}
+use Rattle.parts.specs.Parts.{saved_at}
+use Rattle.tick.specs.Seat.{seat_of}
+use Rattle.tick.proofs.Laws.Reach.{save_inside}
+use Rattle.kernel.proofs.Laws.Ticks.{Going, none_yet, went_on, all_done, idle_rest, to_code}
+use Rattle.kernel.proofs.stretch.stretch.Given as goal
+
+abbrev pub invariant-loop-left : goal.invariant-loop-left
+invariant-loop-left l = (length l.memory ≡ length l.initial.memory)
+    × Going (seat_of l.base l.size l.reads l.writes l.segments) l.from l.start l.room l.count l.n l.initial.memory l.left l.memory
+    × (is_able (saved_at l.memory l.from) ≡ true)
+
+abbrev pub decreases-loop-left : goal.decreases-loop-left
+decreases-loop-left l = l.left
