@@ -17,7 +17,7 @@ returns-then-room-pc c =
     let s = saved_at a.memory.now a.from in
     let plain = plain_both s start.requires.from_value.0 in
     let over : ltb a.room (counter s + 4) ≡ true = rw (← g.get_counter-pc.ensures) (lt-ltb _ _ f.if-room-pc.true) in
-    let first = first_alone S a.from a.start a.room a.n a.memory.now f.fault.new.0 start.requires.from_value.1
+    let first = first_alone S a.from a.start a.room a.n a.memory.now f.fault.new.memory start.requires.from_value.1
     (λ k. rw f.fault.ensures (over_tick S a.from a.start a.room k a.memory.now plain.0 plain.1 over)) in
     (first.0, λ count h e. first.1 count)
 

@@ -1,9 +1,12 @@
 -- Each turn is an interrupt or none, and some ticks more of the partition, the first at the count that the last turn left. Where it is no longer able,
 -- those that are left do nothing.
-use Rattle.std.proofs.Common.{◌≡◌, ℕ, ◌+◌, ◌≤◌, true, List, length, sym, refl, ◌∙◌, lt_of_lt_of_le, arith, rules}
+use Rattle.std.proofs.Common.{◌≡◌, ℕ, ◌+◌, ◌-◌, ◌<◌, ◌≤◌, true, List, length, sym, refl, ◌∙◌, lt_of_lt_of_le, arith, rules}
 use borrow.Author.Tests.{not-true, not-false}
 use Rattle.machine.specs.Tick.{Seat}
 use Rattle.machine.specs.Local.{is_able}
+use Rattle.machine.specs.Place.{counts, count_after}
+use Rattle.savearea.specs.Next.{is_plain}
+use Rattle.kernel.specs.Stretch.{ticked_for}
 use Rattle.parts.specs.Parts.{saved_at}
 use Rattle.tick.specs.Seat.{seat_of}
 use Rattle.tick.proofs.Laws.Reach.{save_inside}
@@ -30,35 +33,18 @@ loop-left-init c =
     let w = c in
     (refl, none_yet _ _ _ _ _ _ _, rw w.wide-from.ensures w.requires.save_value)
 
-abbrev Loop : Type 0
-Loop = goal.At-loop-left
+-- What is done after an interrupt or none, and after the ticks that follow it.
+took :
+    (S : Seat) (from start room c n left r end : ℕ) (m₀ m m' : List ℕ) → c < counts → end ≡ count_after n c → Going S from start room c n m₀ left m
+    → (r ≤ left) × (is_plain (saved_at m' from) ≡ true) × ((S : Seat) (start room count : ℕ) → m' ≡ ticked_for S from start room count (left - r) m)
+    → Going S from start room c n m₀ r m'
+took S from start room c n left r end m₀ m m' h last g e = went_on S from start room c n left r end m₀ m m' h e.0 last g (λ k _ _. e.2 S start room k)
 
-abbrev seatAt : Loop → Seat
-seatAt h =
-    let a = h.before.before.before.before.before.before.before.before.before.before.before.args in
-    seat_of a.base.now a.size.now a.reads a.writes a.segments
-
--- With so many ticks left and this memory, of the stretch whose loop this is.
-abbrev GoingAt : Loop → ℕ → List ℕ → Type 0
-GoingAt h left memory =
-    let a = h.before.before.before.before.before.before.before.before.before.before.before.args in
-    Going (seatAt h) h.before.before.before.before.before.before.wide.result h.before.before.before.before.wide2.result
-    h.before.before.wide3.result a.count a.n a.memory.now left memory
-
-took : (g : goal.After-take_interrupt-left) → GoingAt g g.take_interrupt-left.result g.take_interrupt-left.new.0
-took g =
-    let h = g in
-    let e = g.take_interrupt-left.ensures in
-    went_on _ _ _ _ _ _ _ _ _ _ _ _ (search rules) e.0 h.wrapping_add_u32-end.ensures.value h.loop-left.invariant.1 (λ k _ _. e.2 _ _ _ k)
-
-abbrev loop_of : goal.After-ready_ticks-left → Loop
-loop_of g = g
-
-went : (g : goal.After-ready_ticks-left) → GoingAt (loop_of g) g.ready_ticks-left.result g.ready_ticks-left.new.0
-went g =
-    let h = loop_of g in
-    let e = g.ready_ticks-left.ensures in
-    went_on _ _ _ _ _ _ _ _ _ _ _ _ (search rules) (omega (arith, e.0)) h.wrapping_add_u32-end.ensures.value (took g) e.1
+went :
+    (S : Seat) (from start room c n left r end : ℕ) (m₀ m m' : List ℕ) → c < counts → end ≡ count_after n c → Going S from start room c n m₀ left m
+    → (r < left) × ((count : ℕ) → count < counts → end ≡ count_after left count → m' ≡ ticked_for S from start room count (left - r) m)
+    → Going S from start room c n m₀ r m'
+went S from start room c n left r end m₀ m m' h last g e = went_on S from start room c n left r end m₀ m m' h (omega (arith, e.0)) last g e.1
 
 pub take_interrupt-left-requires : goal.take_interrupt-left-requires
 take_interrupt-left-requires c =
@@ -73,7 +59,7 @@ returns-then-left-eq0 c =
     let g = c in
     let r = g in
     to_code _ _ _ _ _ _ _ _ _ _ r.wide-from.ensures r.wide-start.ensures r.wide-room.ensures
-    (all_done _ _ _ _ _ _ _ _ _ (omega (arith, c.if-left-eq0.true)) (took g))
+    (all_done _ _ _ _ _ _ _ _ _ (omega (arith, c.if-left-eq0.true)) (took _ _ _ _ _ _ _ _ _ _ _ _ (search rules) c.wrapping_add_u32-end.ensures.value c.loop-left.invariant.1 c.take_interrupt-left.ensures))
 
 pub ready_ticks-left-requires : goal.ready_ticks-left-requires
 ready_ticks-left-requires c =
@@ -83,21 +69,24 @@ ready_ticks-left-requires c =
     let w = r in
     let p = w.requires.seated in
     let few = p.1 in
-    let long = g.take_interrupt-left.auto.0 in record {
+    let took = took _ _ _ _ _ _ _ _ _ _ _ _ (search rules) c.wrapping_add_u32-end.ensures.value c.loop-left.invariant.1 c.take_interrupt-left.ensures in
+    let long = g.take_interrupt-left.auto.memory in record {
       save_size_in_bounds = (
         rw (long, h.loop-left.invariant.0, w.wide-from.ensures) (save_inside p.0),
         rw (long, h.loop-left.invariant.0, r.wide-start.ensures, r.wide-room.ensures) (p.0.every.inside _ p.0.code_there),
       );
       inside = rw (long, h.loop-left.invariant.0) p.0.every;
-      from_value = (g.take_interrupt-left.ensures.1, omega (arith, c.if-left-eq0.false), omega (arith, few, (took g).most));
+      from_value = (g.take_interrupt-left.ensures.1, omega (arith, c.if-left-eq0.false), omega (arith, few, took.most));
     }
 
 pub returns-then-left-eq0-2 : goal.returns-then-left-eq0-2
 returns-then-left-eq0-2 c =
     let g = c in
-    let r = (loop_of g) in
+    let r = c in
     to_code _ _ _ _ _ _ _ _ _ _ r.wide-from.ensures r.wide-start.ensures r.wide-room.ensures
-    (all_done _ _ _ _ _ _ _ _ _ (omega (arith, c.if-left-eq0-2.true)) (went g))
+    (all_done _ _ _ _ _ _ _ _ _ (omega (arith, c.if-left-eq0-2.true)) (went _ _ _ _ _ _ _ _ _ _ _ _ (search rules) c.wrapping_add_u32-end.ensures.value
+    (took _ _ _ _ _ _ _ _ _ _ _ _ (search rules) c.wrapping_add_u32-end.ensures.value c.loop-left.invariant.1 c.take_interrupt-left.ensures)
+    c.ready_ticks-left.ensures))
 
 still : (from first long₃ long₂ long₁ long : ℕ) → from ≡ first → long₃ ≡ long₂ → long₂ ≡ long₁ → long₁ ≡ long → first + 44 ≤ long → from + 44 ≤ long₃
 still from first long₃ long₂ long₁ long a b c d e = omega arith
@@ -105,19 +94,21 @@ still from first long₃ long₂ long₁ long a b c d e = omega arith
 pub is_able-requires : goal.is_able-requires
 is_able-requires c =
     let g = c in
-    let h = loop_of g in
+    let h = c in
     let w = h in
     let t = g in
-    still _ _ _ (length t.take_interrupt-left.new.0) _ _ w.wide-from.ensures g.ready_ticks-left.auto.0 t.take_interrupt-left.auto.0 h.loop-left.inv.0
-    (save_inside w.pre.0.0)
+    still _ _ _ (length t.take_interrupt-left.new.memory) _ _ w.wide-from.ensures g.ready_ticks-left.auto.memory t.take_interrupt-left.auto.memory h.loop-left.invariant.0
+    (save_inside w.requires.seated.0)
 
 pub returns-then-not-is_able : goal.returns-then-not-is_able
 returns-then-not-is_able c =
     let g = c in
-    let r = (loop_of g) in
+    let r = c in
     let w = r in
     to_code _ _ _ _ _ _ _ _ _ _ w.wide-from.ensures r.wide-start.ensures r.wide-room.ensures
-    (idle_rest _ _ _ _ _ _ _ _ _ (search (rules, w.fits)) (went g) (sym c.is_able.ensures ∙ c.if-not-is_able.true))
+    (idle_rest _ _ _ _ _ _ _ _ _ (search rules) (went _ _ _ _ _ _ _ _ _ _ _ _ (search rules) c.wrapping_add_u32-end.ensures.value
+    (took _ _ _ _ _ _ _ _ _ _ _ _ (search rules) c.wrapping_add_u32-end.ensures.value c.loop-left.invariant.1 c.take_interrupt-left.ensures)
+    c.ready_ticks-left.ensures) (sym c.is_able.ensures ∙ c.if-not-is_able.true))
 
 pub loop-left-smaller : goal.loop-left-smaller
 loop-left-smaller c =
@@ -125,7 +116,9 @@ loop-left-smaller c =
     omega (arith, g.ready_ticks-left.ensures.0, g.take_interrupt-left.ensures.0)
 
 pub loop-left-preserved : goal.loop-left-preserved
-loop-left-preserved c = (search rules, went c, sym c.is_able.ensures ∙ c.if-not-is_able.false)
+loop-left-preserved c = (search rules, (went _ _ _ _ _ _ _ _ _ _ _ _ (search rules) c.wrapping_add_u32-end.ensures.value
+    (took _ _ _ _ _ _ _ _ _ _ _ _ (search rules) c.wrapping_add_u32-end.ensures.value c.loop-left.invariant.1 c.take_interrupt-left.ensures)
+    c.ready_ticks-left.ensures), sym c.is_able.ensures ∙ c.if-not-is_able.false)
 
 pub shape_of-memory : goal.shape_of-memory
 shape_of-memory c = c.loop-left.invariant.0
