@@ -1,0 +1,6 @@
+-- The number is that of the answer.
+use borrow.Author.Rules.{rules}
+use Rattle.boundary.proofs.sk_reach.Goals as goal
+
+pub returns : goal.returns
+returns c = rw (c.asked_number.ensures, c.reach-report.ensures)
