@@ -156,7 +156,7 @@ module _ (limits : Limits) (v : View) (W : Lawful limits v) where
   put k m = with_part m (v.base (v.save k)) layout.size zeros
 
   fits : (k : ℕ) (m : List ℕ) → k < v.partitions → length m ≡ limits.memory → v.base (v.save k) + layout.size ≤ length m
-  fits k m hk long = omega (arith, W.inside (v.save k) (W.save_there k hk), W.save_size_lem k hk)
+  fits k m hk long = omega (arith, W.inside (v.save k) (W.save_there k hk), W.save_size k hk)
 
   put_sets : (k : ℕ) (m : List ℕ) → k < v.partitions → length m ≡ limits.memory → put k m ≡ sets m (v.base (v.save k)) zeros
   put_sets k m hk long = with-sets m (v.base (v.save k)) layout.size zeros (fits k m hk long) refl

@@ -126,7 +126,7 @@ module _ (u : Under) where
   has (run n ∷ cs) after x p line h = rw later_at (has cs after (step u (run n) x) p line h)
 
   pub pended→has : {cs : List Call} {x : State} {k p line : ℕ} → PendedAfter u cs x k p line → Memᴰ (p, line) (gaps cs x k)
-  pended→has {cs} {x} {k} {p} {line} h = rw (h.stands, ← h.ticks_before_lem) (has h.before h.later x p line h.not_refused)
+  pended→has {cs} {x} {k} {p} {line} h = rw (h.stands, ← h.ticks_before) (has h.before h.later x p line h.not_refused)
 
   here : {cs : List Call} {x : State} {k p line q j : ℕ} → pend_outcome u x.memory q j ≡ Done → k ≡ 0 → ◌≡◌ {A = Pend} (p, line) (q, j)
       → PendedAfter u (pend q j ∷ cs) x k p line
@@ -134,7 +134,7 @@ module _ (u : Under) where
   here {cs} {x} {k} {p} {line} {q} {j} e z i =
       let u : p ≡ q = ap (λ x. x.0) i in
       let w : line ≡ j = ap (λ x. x.1) i in
-      record { before = []; later = cs; stands = rw (u, w); ticks_before_lem = sym z; not_refused = rw (u, w) e }
+      record { before = []; later = cs; stands = rw (u, w); ticks_before = sym z; not_refused = rw (u, w) e }
 
   further : {c : Call} {cs : List Call} {x : State} {j k p line : ℕ} → did u c x + j ≡ k → PendedAfter u cs (step u c x) j p line
       → PendedAfter u (c ∷ cs) x k p line
@@ -144,7 +144,7 @@ module _ (u : Under) where
         before = c ∷ r.before;
         later = r.later;
         stands = ap (λ z. c ∷ z) r.stands;
-        ticks_before_lem = rw r.ticks_before_lem e;
+        ticks_before = rw r.ticks_before e;
         not_refused = r.not_refused;
       }
 

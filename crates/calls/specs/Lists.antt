@@ -41,7 +41,7 @@ module _ (u : Under) where
     pub before : List Call
     pub later : List Call
     pub stands : cs ≡ before ++ (pend p line ∷ later)
-    pub ticks_before_lem : ticks before x ≡ k
+    pub ticks_before : ticks before x ≡ k
     pub not_refused : pend_outcome u (exec before x).memory p line ≡ Done
 
   -- ""The same lines pended between the same ticks" means: for each k from 0 to the ticks in all, the same lines are

@@ -121,16 +121,16 @@ module _ (limits : Limits) (v : View) (W : Lawful limits v) where
 
   module _ (p : ℕ) (hp : p < v.partitions) where
     pub save_fits : (m : List ℕ) → length m ≡ limits.memory → v.base (v.save p) + 44 ≤ length m
-    save_fits m l = omega (arith, W.inside (v.save p) (W.save_there p hp), W.save_size_lem p hp)
+    save_fits m l = omega (arith, W.inside (v.save p) (W.save_there p hp), W.save_size p hp)
 
     touches_allowed : (e : Effect) → Touches (seat v p) e → Allowed v p (patches (v.save p) e)
     unfolding Allowed
     touches_allowed none k = tt
-    touches_allowed (saves ys) k = (W.save_there p hp, save_writable v p, omega (arith, W.save_size_lem p hp), tt)
+    touches_allowed (saves ys) k = (W.save_there p hp, save_writable v p, omega (arith, W.save_size p hp), tt)
     touches_allowed (stores ys s at bs) k = (
       W.save_there p hp,
       save_writable v p,
-      omega (arith, W.save_size_lem p hp, k.0),
+      omega (arith, W.save_size p hp, k.0),
       (reaches_there _ _ _ k.1, line_writable v p s (reaches-given _ _ _ k.1), k.2, tt),
     )
 
@@ -156,7 +156,7 @@ module _ (limits : Limits) (v : View) (W : Lawful limits v) where
     law_A k k' m m' ek same = rw (ek, saved, code, fun_ext (λ s. look s (may_load (seat v p) s) refl))
       where
         saved : part m (v.base (v.save p)) 44 ≡ part m' (v.base (v.save p)) 44
-        saved = rw (← W.save_size_lem p hp) (same (v.save p) (record { there = W.save_there p hp; read = save_readable v p }))
+        saved = rw (← W.save_size p hp) (same (v.save p) (record { there = W.save_there p hp; read = save_readable v p }))
 
         code : bytes_of (v.code p) m ≡ bytes_of (v.code p) m'
         code = same (v.code p) (record { there = W.code_there p hp; read = line_readable v p (v.code p) (W.code_read p hp) })

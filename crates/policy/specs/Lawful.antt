@@ -23,7 +23,7 @@ pub record Lawful (limits : Limits) (v : View) : Type 0 where
   -- partitions: their segments are there; a save segment has 44 bytes, one partition, and is no code
   pub code_there : (p : ℕ) → p < v.partitions → v.code p < v.segments
   pub save_there : (p : ℕ) → p < v.partitions → v.save p < v.segments
-  pub save_size_lem : (p : ℕ) → p < v.partitions → v.size (v.save p) ≡ save_size
+  pub save_size : (p : ℕ) → p < v.partitions → v.size (v.save p) ≡ save_size
   pub save_own : (p q : ℕ) → p < v.partitions → q < v.partitions → v.save p ≡ v.save q → p ≡ q
   pub save_no_code : (p q : ℕ) → p < v.partitions → q < v.partitions → v.code p ≡ v.save q → ⊥
   -- rights: none on a save segment, and r on the own code segment (7)

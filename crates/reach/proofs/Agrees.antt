@@ -76,7 +76,7 @@ module _ (limits : Limits) (v : View) (s t : ℕ) where
       record {
         yes = sym (none_set limits.segments t s);
         unsound = (λ e. refl, λ e. refl);
-        no_segment_lem = (λ e. absurd (other (λ n. omega arith) e), λ p. absurd (other (λ n. omega arith) p.0));
+        no_segment = (λ e. absurd (other (λ n. omega arith) e), λ p. absurd (other (λ n. omega arith) p.0));
       }
 
   agree_sound : v.segments ≤ limits.segments → Agrees (with true) s t
@@ -88,7 +88,7 @@ module _ (limits : Limits) (v : View) (s t : ℕ) where
           record {
             yes = rw e (sym (bit_outside limits v few s t e));
             unsound = rw e (λ q. absurd (other (λ n. omega arith) q), λ q. absurd (other (λ n. omega arith) q));
-            no_segment_lem = rw e (λ q. (refl, out), λ p. refl);
+            no_segment = rw e (λ q. (refl, out), λ p. refl);
           }
         where
           out : (s < v.segments) × (t < v.segments) → ⊥
@@ -102,7 +102,7 @@ module _ (limits : Limits) (v : View) (s t : ℕ) where
           record {
             yes = rw e (sym (bit_inside limits v few s t a b));
             unsound = rw e (λ q. absurd (other (λ n. omega arith) q), λ q. absurd (other (λ n. omega arith) q));
-            no_segment_lem = rw e (λ q. absurd (other (λ n. omega arith) q), λ p. absurd (p.1 (a, b)));
+            no_segment = rw e (λ q. absurd (other (λ n. omega arith) q), λ p. absurd (p.1 (a, b)));
           }
 
 module _ (limits : Limits) (tables : Tables) where

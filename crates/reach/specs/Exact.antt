@@ -53,6 +53,6 @@ pub record Agrees (u : Under) (s t : ℕ) : Type 0 where
   -- 10 on both
   pub unsound : ((can_reach_answer u s t).asked ≡ Unsound) ↔ ((reach_answer u).asked ≡ Unsound)
   -- 15 has no row: the report is answered, and s or t isn't a segment
-  pub no_segment_lem :
+  pub no_segment :
       ((can_reach_answer u s t).asked ≡ NoSegment)
       ↔ (((reach_answer u).asked ≡ Answered) × ((s < u.view.segments) × (t < u.view.segments) → ⊥))

@@ -29,4 +29,4 @@ pub record Seated (base size : List ℕ) (segments code save whole : ℕ) : Type
   pub every : Inside base size segments whole
   pub code_there : code < segments
   pub save_there : save < segments
-  pub save_size_lem : get_or size save 0 ≡ save_size
+  pub save_size : get_or size save 0 ≡ save_size

@@ -45,7 +45,7 @@ module _ (limits : Limits) (v : View) (W : Lawful limits v) (p line : ℕ) (hp :
   unfolding with_line
   line_other s m hs n =
       part-set_other (v.base s) (v.size s) (pended_at v p) _ m
-      (⊎_elim (λ h. inl (omega (arith, W.save_size_lem p hp))) (λ h. inr (omega arith)) (W.disjoint (v.save p) s (W.save_there p hp) hs n))
+      (⊎_elim (λ h. inl (omega (arith, W.save_size p hp))) (λ h. inr (omega arith)) (W.disjoint (v.save p) s (W.save_there p hp) hs n))
 
   -- What a segment has after a Pend comes from what it had.
   pub line_same : (s : ℕ) (m m' : List ℕ) → s < v.segments → part m (v.base s) (v.size s) ≡ part m' (v.base s) (v.size s)
@@ -54,12 +54,12 @@ module _ (limits : Limits) (v : View) (W : Lawful limits v) (p line : ℕ) (hp :
   line_same s m m' hs e = go (ℕ_discrete (v.save p) s)
     where
       byte : (n : List ℕ) → get_or (part n (v.base (v.save p)) (v.size (v.save p))) layout.pended 0 ≡ get_or n (pended_at v p) 0
-      byte n = let h : layout.pended < v.size (v.save p) = omega (arith, W.save_size_lem p hp) in rw (get_or-take, get_or-drop)
+      byte n = let h : layout.pended < v.size (v.save p) = omega (arith, W.save_size p hp) in rw (get_or-take, get_or-drop)
 
       own : part m (v.base (v.save p)) (v.size (v.save p)) ≡ part m' (v.base (v.save p)) (v.size (v.save p))
           → part (with_line v p line m) (v.base (v.save p)) (v.size (v.save p)) ≡ part (with_line v p line m') (v.base (v.save p)) (v.size (v.save p))
       own f =
-          let h : layout.pended < v.size (v.save p) = omega (arith, W.save_size_lem p hp) in
+          let h : layout.pended < v.size (v.save p) = omega (arith, W.save_size p hp) in
           rw (← byte m, ← byte m') (simp (part-set, f))
 
       go : Dec (v.save p ≡ s) → part (with_line v p line m) (v.base s) (v.size s) ≡ part (with_line v p line m') (v.base s) (v.size s)

@@ -33,7 +33,7 @@ module _ {base size : List ℕ} {segments whole : ℕ} (f : Inside base size seg
   reach_inside = f.inside c reached
 
 pub save_inside : {base size : List ℕ} {segments code save whole : ℕ} → Seated base size segments code save whole → get_or base save 0 + 44 ≤ whole
-save_inside {base} {size} {segments} {code} {save} {whole} f = rw (← f.save_size_lem) (f.every.inside save f.save_there)
+save_inside {base} {size} {segments} {code} {save} {whole} f = rw (← f.save_size) (f.every.inside save f.save_there)
 
 pub stored_to_lem : (S : Seat) (width : ℕ) (m : List ℕ) (from a b c : ℕ) (answer : Bool) → answer ≡ may_store S c → answer ≡ true
     → stored S width from m a b c ≡ stored_to width m from (S.base c) (S.size c) a b

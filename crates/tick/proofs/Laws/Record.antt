@@ -18,5 +18,5 @@ record_seated limits t q fits bases sizes w there =
       every = record { few = omega arith; base_there = omega arith; size_there = omega arith; inside = w.inside };
       code_there = w.code_there q there;
       save_there = w.save_there q there;
-      save_size_lem = w.save_size_lem q there;
+      save_size = w.save_size q there;
     }

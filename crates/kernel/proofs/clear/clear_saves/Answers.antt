@@ -19,7 +19,7 @@ save_inside : (limits : Limits) (t : Tables) → sound_of limits t ≡ true → 
 save_inside limits t sound q there =
     let w = lawful limits t sound in
     let s = get_or t.partitions.save q 0 in
-    let size : get_or t.segments.size s 0 ≡ 44 = w.save_size_lem q there in
+    let size : get_or t.segments.size s 0 ≡ 44 = w.save_size q there in
     rw size at (w.inside s (w.save_there q there))
 
 pub slice_bounds-clear-end : goal.slice_bounds-clear-end
