@@ -8,7 +8,6 @@ use mathlib.Core.Bool.{Bool, true, false, cond}
 use mathlib.Core.Logic.{◌⊎◌, inl, inr}
 use mathlib.Core.List.{List, [], ◌∷◌}
 use lib.ListN.{length, get_or, drop, replicate}
-use lib.Dec.{ltb}
 use lib.Seq.{sets, length-sets, get_or-take, get_or-drop, ext_get_or}
 use borrow.Author.Tests.{le-ltb, eq-eqb}
 use Rattle.policy.specs.Limits.{Limits}
@@ -17,20 +16,19 @@ use Rattle.policy.specs.Tables.{Tables, view_of}
 use Rattle.policy.specs.Lawful.{Lawful}
 use Rattle.policy.specs.Sound.{sound_of}
 use Rattle.policy.proofs.Lawful.{lawful}
-use Rattle.machine.specs.Bytes.{part, with_part}
+use Rattle.machine.specs.Bytes.{with_part}
 use Rattle.machine.specs.Layout.{layout}
 use Rattle.machine.specs.Machine.{State, Stands}
 use Rattle.machine.proofs.Laws.Parts.{get_d_sets_other, with-sets}
 use Rattle.machine.proofs.Laws.Written.{part_put}
 use Rattle.calls.specs.Under.{Under, under}
-use Rattle.calls.specs.declared.Outcome.{Outcome}
 use Rattle.calls.specs.declared.Outcome.TheVariants.{Done}
 use Rattle.calls.specs.Outcomes.{is_done}
 use Rattle.calls.specs.Start.{start_outcome, start_answer, after_start, cleared}
 use Rattle.calls.specs.Pend.{with_line, pend_outcome, after_pend}
 use Rattle.calls.specs.Run.{most_ticks_of_run, run_outcome, after_ticks, after_run, run_answer}
 use Rattle.calls.specs.Lists.{Call, pend, run, step, exec}
-use Rattle.calls.specs.Integrators.{Splits, RunSplits, RunGoesOn, RunsJoin, PendAnswersAlone, PendTwice, PendsEitherOrder}
+use Rattle.calls.specs.Integrators.{RunSplits, RunGoesOn, RunsJoin, PendAnswersAlone, PendTwice, PendsEitherOrder}
 use Rattle.calls.specs.Integrators.{SameOthers, StartForgets, StartAfterCalls}
 use Rattle.calls.proofs.Laws.Outcomes.{is_done_lem, run_stands, run_sound, start_whole, start_sound}
 use Rattle.calls.proofs.Laws.Pends.{line_again, line_swap, line_length}

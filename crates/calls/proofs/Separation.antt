@@ -9,7 +9,7 @@ use mathlib.Core.List.{List, [], ◌∷◌, Memᴰ}
 use lib.ListN.{length}
 use Rattle.policy.specs.Limits.{Limits}
 use Rattle.policy.specs.View.{View}
-use Rattle.policy.specs.Tables.{Tables, view_of}
+use Rattle.policy.specs.Tables.{view_of}
 use Rattle.policy.specs.Chain.{FlowLine, Chain, one, more}
 use Rattle.policy.specs.Lawful.{Lawful}
 use Rattle.policy.proofs.Accepted.{sound_lawful}

@@ -1,23 +1,22 @@
 -- Two memories that are equal on R(p), with equal counts, give p the same effect (law A), and the effect stays in W(p) (law B); with rule 8 that separates one tick.
 -- No case on the instruction stands here.
-use Prim.Native.Nat.{ℕ, zero, suc, ◌+◌, ◌≤◌, ◌<◌}
+use Prim.Native.Nat.{ℕ, ◌+◌, ◌≤◌, ◌<◌}
 use native.Mathlib.Omega.{arith}
 use native.Mathlib.Nat.{add-zero}
 use native.Mathlib.Decide.{ℕ_discrete}
 use mathlib.Core.Path.{◌≡◌, refl, sym, ◌∙◌, ap, ap₂, subst, fun_ext}
-use mathlib.Core.Logic.{◌≢◌, ◌⊎◌, inl, inr, ⊎_elim}
+use mathlib.Core.Logic.{◌⊎◌, inl, inr, ⊎_elim}
 use mathlib.Core.Bool.{Bool, true, false, false≢true, ◌||◌, cond}
 use mathlib.Core.List.{List, [], ◌∷◌}
-use lib.Dec.{eqb, ltb, eqb_refl, T}
-use lib.ListN.{length, get_or, take, drop, length-take, length-drop}
+use lib.Dec.{eqb, eqb_refl, T}
+use lib.ListN.{length, get_or, length-take, length-drop}
 use lib.Seq.{sets, length-sets}
 use Rattle.policy.specs.Limits.{Limits}
 use Rattle.policy.specs.View.{View}
 use Rattle.policy.specs.Access.{readable, writable}
-use Rattle.policy.specs.Chain.{FlowLine}
 use Rattle.policy.specs.Lawful.{Lawful}
-use Rattle.machine.specs.Bytes.{part, with_part}
-use Rattle.machine.specs.Tick.{Seat, Sees, Effect, none, saves, stores, may_load, may_store, looks, sees, effect, applied, tick_of}
+use Rattle.machine.specs.Bytes.{part}
+use Rattle.machine.specs.Tick.{Sees, Effect, none, saves, stores, may_load, looks, sees, effect, applied, tick_of}
 use Rattle.machine.specs.Machine.{State, Segs, Dia, seat, select, current, next, Stands}
 use Rattle.machine.proofs.Laws.Parts.{part-sets, part-sets_other, get_d_sets_other, with-sets}
 use Rattle.machine.proofs.Laws.Tests.{reaches_there, reaches-given}

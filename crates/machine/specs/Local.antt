@@ -9,7 +9,7 @@ use Rattle.machine.specs.declared.Instr.TheVariants.{Wait, Listen, Back, LoadWor
 use Rattle.machine.specs.declared.Fault.TheVariants.{WrongHandler}
 use Rattle.octets.specs.Numbers.{half, with_half}
 use Rattle.machine.specs.Layout.{layout, ready, halted, waiting}
-use Rattle.machine.specs.Save.{register, with_register, counter, with_counter, state, with_state, pended, enabled}
+use Rattle.machine.specs.Save.{register, with_register, counter, with_counter, state, with_state, pended}
 use Rattle.machine.specs.Save.{in_handler, due}
 use Rattle.machine.specs.Faults.{faults}
 

@@ -1,5 +1,5 @@
 -- The fields of a save segment's bytes.
-use Rattle.std.specs.Prelude.{ℕ, ◌+◌, ◌*◌, Bool, not, List, get_or, set, eqb}
+use Rattle.std.specs.Prelude.{ℕ, ◌*◌, Bool, not, List, get_or, set, eqb}
 use Rattle.std.specs.Int.Bits.{bit_and}
 use Rattle.octets.specs.Numbers.{half, word, with_half, with_word}
 use Rattle.machine.specs.Layout.{layout}

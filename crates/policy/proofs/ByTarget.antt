@@ -2,7 +2,7 @@
 -- after the last one it is rule 8's answer.
 use Prim.Native.Nat.{ℕ, zero, suc, ◌+◌, ◌<◌, ◌≤◌}
 use mathlib.Core.Path.{◌≡◌, refl, sym, ◌∙◌}
-use mathlib.Core.Bool.{Bool, true, false, ◌&&◌, ◌||◌, not, or-true, true≢false}
+use mathlib.Core.Bool.{Bool, true, false, ◌||◌, or-true, true≢false}
 use mathlib.Core.Logic.{◌↔◌}
 use native.Mathlib.Numerals.{add-one}
 use native.Mathlib.Omega.{arith}

@@ -1,6 +1,6 @@
 -- 01, refusal 4: "more than 32 segments, 8 partitions or 32 slots; a length or tick count out of range; base + length
 -- over 16,384; a partition or segment named that isn't there".
-use Rattle.std.specs.Prelude.{ℕ, ◌+◌, Bool, false, ◌&&◌, ◌||◌, not, eqb, leb, ltb}
+use Rattle.std.specs.Prelude.{ℕ, ◌+◌, Bool, false, ◌||◌, leb, ltb}
 use Rattle.text.specs.declared.line.Line.{Line}
 use Rattle.text.specs.declared.line.Line.TheVariants.{Bad, Segment, Partition, Right, Flow, Slot}
 use Rattle.policy.specs.Limits.{Limits, longest_segment, most_ticks}

@@ -1,5 +1,4 @@
 -- The number is that of the answer, and yes is 1.
-use borrow.Author.Rules.{rules}
 use Rattle.boundary.proofs.sk_can_reach.Goals as goal
 
 pub returns-then-answer : goal.returns-then-answer

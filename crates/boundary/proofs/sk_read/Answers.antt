@@ -1,6 +1,5 @@
 -- The number and the line are those of the answer.
 use mathlib.Core.Path.{◌∙◌, ap}
-use borrow.Author.Rules.{rules}
 use Rattle.policy.specs.Read.{Answer}
 use Rattle.policy.specs.Refusals.{number_of, line_number_of}
 use Rattle.boundary.proofs.sk_read.Goals as goal

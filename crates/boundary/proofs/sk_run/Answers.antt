@@ -1,5 +1,4 @@
 -- The number is that of the answer.
-use borrow.Author.Rules.{rules}
 use Rattle.boundary.proofs.sk_run.Goals as goal
 
 pub returns : goal.returns

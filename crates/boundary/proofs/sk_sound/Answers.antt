@@ -1,6 +1,4 @@
 -- 1 where the record is sound, and else 0.
-use mathlib.Core.Path.{sym, ◌∙◌}
-use borrow.Author.Rules.{rules}
 use Rattle.boundary.proofs.sk_sound.Goals as goal
 
 pub returns-then-sound : goal.returns-then-sound

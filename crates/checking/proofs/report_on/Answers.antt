@@ -1,5 +1,4 @@
 -- Reading a text answers within the limits, so its report fits the buffer.
-use borrow.Author.Rules.{rules}
 use Rattle.policy.specs.Record.{answer_of}
 use Rattle.report.specs.Report.{report_of}
 use Rattle.checking.proofs.Laws.Readings.{reportable}

@@ -1,7 +1,6 @@
 -- Each key of the match is the opcode passed on, and what is none of the keys is no instruction.
 use mathlib.Core.Path.{sym}
 use Rattle.decoder.proofs.Laws.Opcodes.{decode_none}
-use borrow.Author.Rules.{rules}
 use Rattle.decoder.proofs.decode.Goals as goal
 
 pub returns-in-0 : goal.returns-in-0

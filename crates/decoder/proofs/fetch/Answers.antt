@@ -1,6 +1,5 @@
 -- Four bytes are read at the places of the definition, and decoded.
 use Rattle.machine.specs.Decode.{fetched}
-use borrow.Author.Rules.{rules}
 use Rattle.decoder.proofs.fetch.Goals as goal
 
 pub returns : goal.returns

@@ -2,7 +2,6 @@
 use mathlib.Core.Path.{sym}
 use Rattle.machine.specs.Decode.{instruction_of}
 use Rattle.decoder.proofs.Laws.Opcodes.{instruction_none}
-use borrow.Author.Rules.{rules}
 use Rattle.decoder.proofs.instruction.Goals as goal
 
 pub returns-in-0 : goal.returns-in-0

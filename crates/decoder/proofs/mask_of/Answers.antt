@@ -2,7 +2,6 @@
 use Prim.Native.Nat.{ℕ}
 use lib.ListN.{get_or-eq_default}
 use Rattle.machine.specs.Decode.{register_masks}
-use borrow.Author.Rules.{rules}
 use Rattle.decoder.proofs.mask_of.Goals as goal
 
 pub returns : goal.returns

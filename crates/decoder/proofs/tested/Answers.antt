@@ -1,6 +1,5 @@
 -- The mask's test decides, in the code as in the definition.
 use Rattle.machine.specs.Decode.{decode_of}
-use borrow.Author.Rules.{rules}
 use Rattle.decoder.proofs.tested.Goals as goal
 
 pub returns-then-operands_fit : goal.returns-then-operands_fit

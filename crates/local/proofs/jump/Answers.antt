@@ -1,5 +1,5 @@
 -- The test on the register read picks the same side as the definition.
-use Rattle.std.proofs.Common.{sym, rules, eq-eqb, ne_eqb}
+use Rattle.std.proofs.Common.{sym, eq-eqb, ne_eqb}
 use Rattle.machine.specs.Local.{jumps}
 use Rattle.savearea.proofs.Laws.Counters.{counter_put}
 use Rattle.local.proofs.jump.Goals as goal

@@ -1,5 +1,5 @@
 -- The test on the in-handler byte picks the same side as the definition; the state lies behind the counter.
-use Rattle.std.proofs.Common.{sym, ◌∙◌, arith, rules}
+use Rattle.std.proofs.Common.{sym, ◌∙◌, arith}
 use Rattle.machine.specs.Local.{waits}
 use Rattle.savearea.proofs.Laws.Counters.{counter_behind, counter-faults}
 use Rattle.local.proofs.wait.Goals as goal

@@ -1,6 +1,5 @@
 -- The part that is lent is the code segment's bytes.
 use native.Mathlib.Nat.{add-sub_cancel_left}
-use borrow.Author.Rules.{rules}
 use Rattle.parts.proofs.fetch.Goals as goal
 
 pub returns : goal.returns

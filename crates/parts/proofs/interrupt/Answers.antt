@@ -1,6 +1,5 @@
 -- The part that is lent is the save bytes, and comes back in their place.
 use native.Mathlib.Nat.{add-sub_cancel_left}
-use borrow.Author.Rules.{rules}
 use Rattle.parts.proofs.interrupt.Goals as goal
 
 pub interrupt-requires : goal.interrupt-requires

@@ -1,5 +1,4 @@
 -- The tests are the definition's, in its order.
-use borrow.Author.Rules.{rules}
 use Rattle.parts.proofs.is_able.Goals as goal
 
 pub returns-then-takes_interrupt : goal.returns-then-takes_interrupt

@@ -1,7 +1,6 @@
 -- The part that is lent is the save bytes.
 use native.Mathlib.Nat.{add-sub_cancel_left}
 use Rattle.machine.specs.Local.{is_ready}
-use borrow.Author.Rules.{rules}
 use Rattle.parts.proofs.is_ready.Goals as goal
 
 pub returns : goal.returns

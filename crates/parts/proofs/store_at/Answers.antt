@@ -3,7 +3,6 @@ use native.Mathlib.Nat.{add-sub_cancel_left}
 use native.Mathlib.Omega.{arith}
 use mathlib.Core.List.{[], ◌∷◌}
 use Rattle.machine.proofs.Laws.Parts.{with-part-sets}
-use borrow.Author.Rules.{rules}
 use Rattle.parts.proofs.store_at.Goals as goal
 
 pub returns : goal.returns

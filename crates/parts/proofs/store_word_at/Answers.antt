@@ -3,7 +3,6 @@ use native.Mathlib.Nat.{add-sub_cancel_left}
 use Rattle.machine.specs.Bytes.{digits}
 use Rattle.machine.proofs.Laws.Numbers.{length_digits, digits-word}
 use Rattle.machine.proofs.Laws.Parts.{with-part-sets}
-use borrow.Author.Rules.{rules}
 use Rattle.parts.proofs.store_word_at.Goals as goal
 
 pub returns : goal.returns

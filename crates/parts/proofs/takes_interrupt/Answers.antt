@@ -1,6 +1,5 @@
 -- The part that is lent is the save bytes.
 use native.Mathlib.Nat.{add-sub_cancel_left}
-use borrow.Author.Rules.{rules}
 use Rattle.parts.proofs.takes_interrupt.Goals as goal
 
 pub returns : goal.returns

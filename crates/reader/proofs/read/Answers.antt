@@ -1,5 +1,4 @@
 -- A text over the limit is refused by 1; any other is read line by line.
-use borrow.Author.Rules.{rules}
 use borrow.Author.Tests.{lt-ltb, le-ltb}
 use Rattle.policy.specs.Limits.{single}
 use Rattle.policy.specs.Read.{read_by}

@@ -8,8 +8,8 @@ use mathlib.Core.List.{List}
 use lib.Dec.{eqb}
 use lib.ListN.{get_or, set, length, length-set}
 use lib.Seq.{get_or-set_same, get_or-set_other}
-use Rattle.octets.specs.Numbers.{half, with_half, with_word}
-use Rattle.machine.specs.Save.{counter, register, with_register, with_counter}
+use Rattle.octets.specs.Numbers.{with_half, with_word}
+use Rattle.machine.specs.Save.{counter, register, with_counter}
 use Rattle.machine.specs.Local.{advanced, resulted, jumps, takes_interrupt, is_ready, interrupted, entered}
 use Rattle.savearea.specs.Next.{is_plain, Hands}
 

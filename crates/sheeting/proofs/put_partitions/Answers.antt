@@ -1,10 +1,7 @@
 -- Each turn writes one line more, of at most 24 bytes.
-use Prim.Native.Nat.{◌-◌, ◌≤◌}
 use mathlib.Core.Path.{◌≡◌, refl, ◌∙◌}
 use native.Mathlib.Omega.{arith}
-use borrow.Author.Rules.{rules}
-use lib.ListN.{get_or, length}
-use Rattle.writing.specs.Written.{Written}
+use lib.ListN.{get_or}
 use Rattle.writing.proofs.Laws.Written.{written_none, written_long}
 use Rattle.sheeting.specs.Lines.{partition_lines}
 use Rattle.sheeting.proofs.Laws.Lines.{line_short, lines_short, lines_more}

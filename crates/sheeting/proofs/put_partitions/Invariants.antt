@@ -1,13 +1,9 @@
 -- Each turn writes one line more, of at most 24 bytes.
 use Prim.Native.Nat.{◌-◌, ◌≤◌}
-use mathlib.Core.Path.{◌≡◌, refl, ◌∙◌}
-use native.Mathlib.Omega.{arith}
-use borrow.Author.Rules.{rules}
+use mathlib.Core.Path.{◌≡◌}
 use lib.ListN.{get_or, length}
 use Rattle.writing.specs.Written.{Written}
-use Rattle.writing.proofs.Laws.Written.{written_none, written_long}
 use Rattle.sheeting.specs.Lines.{partition_lines}
-use Rattle.sheeting.proofs.Laws.Lines.{line_short, lines_short, lines_more}
 use Rattle.sheeting.proofs.put_partitions.Given as goal
 
 abbrev pub invariant-loop-p : goal.invariant-loop-p

@@ -1,14 +1,9 @@
 -- A refused text's one line; of an accepted one the sheet of its record, which is sound.
 use Prim.Native.Nat.{◌<◌}
-use mathlib.Core.Path.{◌≡◌, sym, ◌∙◌}
-use mathlib.Core.Bool.{true}
+use mathlib.Core.Path.{sym, ◌∙◌}
 use native.Mathlib.Omega.{arith}
-use borrow.Author.Rules.{rules}
-use borrow.Author.Tests.{not-true, not-false}
 use Rattle.policy.specs.Limits.{single}
 use Rattle.policy.specs.Record.{tables_of}
-use Rattle.policy.specs.Refusals.{is_accepted}
-use Rattle.policy.specs.Sound.{sound_of}
 use Rattle.policy.specs.Tables.{view_of}
 use Rattle.policy.proofs.Lawful.{lawful}
 use Rattle.writing.proofs.Laws.Written.{written_within, written_long}

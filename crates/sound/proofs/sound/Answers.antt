@@ -1,6 +1,5 @@
 -- A record that passes the test has a text, which the printer writes; a record that some accepted text gives passes the test.
-use mathlib.Core.Path.{◌≡◌, sym, ◌∙◌}
-use borrow.Author.Rules.{rules}
+use mathlib.Core.Path.{sym, ◌∙◌}
 use Rattle.policy.specs.Limits.{single}
 use Rattle.policy.proofs.Accepted.{accepted}
 use Rattle.printer.proofs.Printed.{printed_single}

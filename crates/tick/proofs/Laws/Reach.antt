@@ -11,7 +11,7 @@ use Rattle.machine.specs.Bytes.{digits}
 use Rattle.machine.specs.Save.{register}
 use Rattle.machine.specs.Faults.{faults}
 use Rattle.machine.specs.Local.{advanced}
-use Rattle.machine.specs.Tick.{Seat, reaches, in_segment, may_store, stores_bytes, applied, stores, saves}
+use Rattle.machine.specs.Tick.{Seat, reaches, in_segment, may_store, stores_bytes, stores, saves}
 use Rattle.machine.proofs.Laws.Tests.{applied_cond, reaches_there}
 use Rattle.tick.specs.Seat.{Inside, Seated}
 use Rattle.parts.specs.Parts.{saved_at, stored_to}

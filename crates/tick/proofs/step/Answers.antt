@@ -1,10 +1,8 @@
 -- A plain tick steps, and its counter is not over: what stands there is obeyed, and names registers alone.
-use mathlib.Core.Path.{sym, ◌∙◌}
 use borrow.Author.Tests.{le-ltb}
 use Rattle.machine.specs.Tick.{effect, steps}
 use Rattle.savearea.proofs.Laws.Named.{fetched_named}
 use Rattle.savearea.proofs.Laws.Next.{plain_both}
-use borrow.Author.Rules.{rules}
 use Rattle.tick.proofs.step.Goals as goal
 
 pub obey-requires : goal.obey-requires

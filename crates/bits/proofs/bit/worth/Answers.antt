@@ -1,7 +1,6 @@
 -- One bit moved up s places, which does not pass the width.
 use native.Mathlib.Nat.{one-mul, mod-eq_of_lt}
 use lib.Pow.{pow-lt}
-use borrow.Author.Rules.{rules}
 use Rattle.bits.proofs.bit.worth.Goals as goal
 
 pub returns : goal.returns

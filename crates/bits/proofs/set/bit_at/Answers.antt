@@ -1,7 +1,6 @@
 -- A mask of 64 bits has none from 64 on.
 use mathlib.Core.Path.{sym}
 use native.Mathlib.Omega.{arith}
-use borrow.Author.Rules.{rules}
 use Rattle.bits.proofs.Laws.Masks.{has_past}
 use Rattle.bits.proofs.set.bit_at.Goals as goal
 

@@ -1,7 +1,6 @@
 -- Below 64 the mask has the one bit, from 64 on none.
 use mathlib.Core.Path.{◌∙◌}
 use native.Mathlib.Omega.{arith}
-use borrow.Author.Rules.{rules}
 use Rattle.bits.proofs.Laws.Sets.{none_is, one_is}
 use Rattle.bits.proofs.set.bit_of.Goals as goal
 

@@ -1,7 +1,6 @@
 -- The mask of all numbers below n is one less than 2 to the power n.
 use mathlib.Core.Path.{◌≡◌}
 use native.Mathlib.Omega.{arith}
-use borrow.Author.Rules.{rules}
 use lib.Pow.{pow_pos}
 use Rattle.bits.proofs.Laws.Sets.{all_is}
 use Rattle.bits.proofs.set.bits_below.Goals as goal

@@ -1,10 +1,7 @@
 -- The loop copies number by number; the invariant: those before i are copied.
-use Prim.Native.Nat.{◌-◌}
 use mathlib.Core.Path.{refl}
 use native.Mathlib.Omega.{arith}
-use borrow.Author.Rules.{rules}
-use lib.ListN.{length}
-use Rattle.bits.proofs.Laws.Copied.{Copied, copy_none, copy_more, copy_done, copy_under}
+use Rattle.bits.proofs.Laws.Copied.{copy_none, copy_more, copy_done, copy_under}
 use Rattle.bits.proofs.wide.widen.Goals as goal
 
 pub loop-i-init : goal.loop-i-init

@@ -1,7 +1,5 @@
 -- A byte that ends a field is no x, so decimal digits that it ends are no mark; otherwise the code asks what the
 -- definition asks.
-use Rattle.std.proofs.Common.{rules}
-use borrow.Author.Tests.{not-true, not-false}
 use Rattle.text.proofs.Laws.Scan.{ended_digits, open_digits, hex_digits}
 use Rattle.digits.proofs.number.digits_at.Goals as goal
 

@@ -1,8 +1,7 @@
 -- The digits from the start are those passed and those from the place reached on: the loop's invariant.
-use Rattle.std.proofs.Common.{◌≡◌, ◌-◌, ◌<◌, length, get_or, drop, sym, ◌∙◌, mod-lt, arith, rules}
-use Rattle.text.specs.Digits.{digits_read}
+use Rattle.std.proofs.Common.{get_or, sym, ◌∙◌, mod-lt, arith, rules}
 use Rattle.text.specs.Number.{ten}
-use Rattle.text.proofs.Laws.Scan.{digits_on, on_begin, on_past, on_other, on_more, digit_known, digit_other}
+use Rattle.text.proofs.Laws.Scan.{on_begin, on_past, on_other, on_more, digit_known, digit_other}
 use Rattle.digits.proofs.scan.digits_from.Goals as goal
 
 pub loop-i-init : goal.loop-i-init

@@ -1,8 +1,8 @@
 -- The digits from the start are those passed and those from the place reached on: the loop's invariant.
-use Rattle.std.proofs.Common.{◌≡◌, ◌-◌, ◌<◌, length, get_or, drop, sym, ◌∙◌, mod-lt, arith, rules}
+use Rattle.std.proofs.Common.{◌≡◌, ◌-◌, ◌<◌, length, drop}
 use Rattle.text.specs.Digits.{digits_read}
 use Rattle.text.specs.Number.{ten}
-use Rattle.text.proofs.Laws.Scan.{digits_on, on_begin, on_past, on_other, on_more, digit_known, digit_other}
+use Rattle.text.proofs.Laws.Scan.{digits_on}
 use Rattle.digits.proofs.scan.digits_from.Given as goal
 
 abbrev pub invariant-loop-i : goal.invariant-loop-i

@@ -1,5 +1,5 @@
 -- 0 to 9 first, then a to f; what passes neither test is no digit.
-use Rattle.std.proofs.Common.{leb, rules, leb-true}
+use Rattle.std.proofs.Common.{leb, leb-true}
 use Rattle.text.specs.Digits.{digit_worth}
 use Rattle.text.proofs.Laws.Bools.{and_left}
 use Rattle.digits.proofs.scan.hex_digit.Goals as goal

@@ -2,7 +2,6 @@
 -- and they are a number if there are some and not too many, and no 0 leads them.
 use mathlib.Core.Path.{refl}
 use borrow.Author.Rules.{rules}
-use borrow.Author.Tests.{not-true, not-false}
 use native.Mathlib.Omega.{arith}
 use Rattle.text.specs.Number.{number}
 use Rattle.text.proofs.Laws.Found.{number_within, not_ended, no_number, number_some, zero_led, number_there}

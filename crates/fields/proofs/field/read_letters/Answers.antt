@@ -1,7 +1,6 @@
 -- Behind the text there is no field; otherwise the field is the letters that stand there with the line end, or none of
 -- the three.
 use mathlib.Core.Path.{refl, sym, ◌∙◌}
-use borrow.Author.Rules.{rules}
 use native.Mathlib.Omega.{arith}
 use Rattle.text.specs.Bytes.{bytes_of, same}
 use Rattle.text.specs.Cut.{line_end}

@@ -1,10 +1,6 @@
 -- Strings of one length are the same if what is left of each after the bytes passed is: the loop's invariant.
-use Prim.Native.Nat.{◌-◌}
-use mathlib.Core.Path.{◌≡◌, refl, sym, ◌∙◌}
-use borrow.Author.Rules.{rules}
+use mathlib.Core.Path.{refl, sym, ◌∙◌}
 use native.Mathlib.Omega.{arith}
-use lib.ListN.{length, drop}
-use Rattle.text.specs.Bytes.{same}
 use Rattle.text.proofs.Laws.Bytes.{same_lengths, same_more, same_fails, same_end}
 use Rattle.fields.proofs.scan.same.Goals as goal
 

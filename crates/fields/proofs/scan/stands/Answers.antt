@@ -1,6 +1,5 @@
 -- Fewer bytes than the word has are not it; else the bytes there are compared with it.
 use mathlib.Core.Path.{refl}
-use borrow.Author.Rules.{rules}
 use Rattle.text.proofs.Laws.Words.{stands_short, stands_whole}
 use Rattle.fields.proofs.scan.stands.Goals as goal
 

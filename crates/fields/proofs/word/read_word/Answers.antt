@@ -1,6 +1,5 @@
 -- The word that stands there with its tab is the field, and has its kind; if none of them does, there is no record word.
 use mathlib.Core.Path.{refl, sym, ◌∙◌}
-use borrow.Author.Rules.{rules}
 use Rattle.text.specs.Bytes.{bytes_of, same}
 use Rattle.text.specs.Cut.{tab}
 use Rattle.text.specs.Lines.{word_of}

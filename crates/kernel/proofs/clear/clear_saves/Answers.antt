@@ -1,5 +1,5 @@
 -- Each turn clears one save segment more, as the definition does; a sound record has them all inside memory.
-use Rattle.std.proofs.Common.{◌≡◌, ℕ, ◌+◌, ◌-◌, ◌<◌, ◌≤◌, true, length, get_or, refl, ap, ◌∙◌, add-one, arith, rules}
+use Rattle.std.proofs.Common.{◌≡◌, ℕ, ◌+◌, ◌<◌, ◌≤◌, true, length, get_or, refl, ap, ◌∙◌, add-one, arith, rules}
 use native.Mathlib.Nat.{add-sub_cancel_left}
 use borrow.Rule.Slice.PartMut.{mid_len}
 use Rattle.policy.specs.Limits.{Limits, single}

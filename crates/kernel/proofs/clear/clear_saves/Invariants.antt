@@ -1,12 +1,7 @@
 -- Each turn clears one save segment more, as the definition does; a sound record has them all inside memory.
-use Rattle.std.proofs.Common.{◌≡◌, ℕ, ◌+◌, ◌-◌, ◌<◌, ◌≤◌, true, length, get_or, refl, ap, ◌∙◌, add-one, arith, rules}
-use native.Mathlib.Nat.{add-sub_cancel_left}
-use borrow.Rule.Slice.PartMut.{mid_len}
-use Rattle.policy.specs.Limits.{Limits, single}
-use Rattle.policy.specs.Tables.{Tables, view_of}
+use Rattle.std.proofs.Common.{◌≡◌, ◌-◌, ◌≤◌, length}
+use Rattle.policy.specs.Tables.{view_of}
 use Rattle.policy.specs.Record.{tables_of}
-use Rattle.policy.specs.Sound.{sound_of}
-use Rattle.policy.proofs.Lawful.{lawful}
 use Rattle.calls.specs.Start.{cleared}
 use Rattle.kernel.proofs.clear.clear_saves.Given as goal
 

@@ -1,6 +1,5 @@
 -- Each return rewrites with the tests on the way, which are the definition's in its order.
-use Rattle.std.proofs.Common.{sym, refl, ◌∙◌, rules, eq-eqb, ne_eqb}
-use borrow.Author.Tests.{not-true, not-false}
+use Rattle.std.proofs.Common.{sym, refl, ◌∙◌, eq-eqb, ne_eqb}
 use Rattle.policy.specs.Limits.{single}
 use Rattle.calls.specs.Start.{start_outcome, start_answer, after_start}
 use Rattle.kernel.proofs.clear.start.Goals as goal

@@ -1,7 +1,7 @@
 -- Each return rewrites with the tests on the way, which are the definition's in its order; a line is at most 7, so its bit is in the byte.
-use Rattle.std.proofs.Common.{◌<◌, sym, refl, ◌∙◌, mod-eq_of_lt, one-mul, arith, rules, le-ltb, lt-ltb, eq-eqb, ne_eqb, le-leb}
+use Rattle.std.proofs.Common.{◌<◌, sym, refl, ◌∙◌, mod-eq_of_lt, one-mul, arith, le-ltb, lt-ltb, eq-eqb, ne_eqb, le-leb}
 use lib.Pow.{pow-lt}
-use borrow.Author.Tests.{lt-leb, not-true, not-false}
+use borrow.Author.Tests.{lt-leb}
 use Rattle.policy.specs.Limits.{single}
 use Rattle.calls.specs.Pend.{last_line, pend_outcome, with_line, after_pend}
 use Rattle.kernel.proofs.line.pend.Goals as goal

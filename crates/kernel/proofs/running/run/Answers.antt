@@ -1,6 +1,5 @@
 -- Each return rewrites with the tests on the way, which are the definition's in its order; what they let pass stands.
-use Rattle.std.proofs.Common.{sym, refl, ◌∙◌, rules, le-ltb, lt-ltb, eq-eqb, ne_eqb}
-use borrow.Author.Tests.{not-true, not-false}
+use Rattle.std.proofs.Common.{sym, refl, ◌∙◌, le-ltb, lt-ltb, eq-eqb, ne_eqb}
 use Rattle.policy.specs.Limits.{single}
 use Rattle.machine.specs.Place.{is_place}
 use Rattle.calls.specs.Run.{most_ticks_of_run, run_outcome, after_run, run_answer}

@@ -1,11 +1,9 @@
 -- Each turn is a stretch of the machine's ticks, as many as the slot has left or the Run, or as many ticks of a partition that is not able, which do
 -- nothing; a state that stands has the slot, its partition and the segments in range.
-use Rattle.std.proofs.Common.{◌≡◌, ℕ, ◌+◌, ◌≤◌, min, true, false, length, get_or, sym, ◌∙◌, arith, rules}
-use Rattle.policy.specs.Limits.{single, save_size}
+use Rattle.std.proofs.Common.{◌≡◌, min, length, get_or, sym, ◌∙◌, arith, rules}
 use Rattle.policy.specs.Tables.{view_of}
 use Rattle.policy.specs.Record.{tables_of}
 use Rattle.machine.specs.Machine.{seat}
-use Rattle.tick.specs.Seat.{Seated}
 use Rattle.tick.proofs.Laws.Reach.{save_inside}
 use Rattle.kernel.specs.Stretch.{ticked_by}
 use Rattle.kernel.proofs.Laws.Ticks.{idle_ticks}

@@ -1,5 +1,4 @@
 -- Each entry is that of its list.
-use Rattle.std.proofs.Common.{rules}
 use Rattle.kernel.proofs.save.save_from.Goals as goal
 
 pub returns : goal.returns

@@ -1,5 +1,5 @@
 -- A number below 65,536 is handed on before a plain tick alone; else the definition is asked, its two tests in turn.
-use Rattle.std.proofs.Common.{sym, ◌∙◌, rules}
+use Rattle.std.proofs.Common.{sym}
 use Rattle.savearea.specs.Next.{is_plain}
 use Rattle.kernel.proofs.stretch.goes_on.Goals as goal
 

@@ -1,5 +1,5 @@
 -- A counter that is over is a tick at any count; else the ticks are steps, and the first has an instruction at its counter.
-use Rattle.std.proofs.Common.{◌≡◌, ◌+◌, true, ltb, sym, ◌∙◌, arith, rules, lt-ltb}
+use Rattle.std.proofs.Common.{◌≡◌, ◌+◌, true, ltb, arith, lt-ltb}
 use Rattle.machine.specs.Save.{counter}
 use Rattle.parts.specs.Parts.{saved_at}
 use Rattle.tick.specs.Seat.{seat_of}

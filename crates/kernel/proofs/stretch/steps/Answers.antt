@@ -1,12 +1,7 @@
 -- Each turn is one tick more of the partition, at the next count and with the counter that the last one left. Each is plain, and the first has an
 -- instruction at its counter, so that one at least is done.
-use Rattle.std.proofs.Common.{◌≡◌, ℕ, ◌+◌, ◌<◌, ◌≤◌, true, ◌⊎◌, length, sym, refl, ◌∙◌, inl, inr, ⊎_elim, arith, rules}
-use borrow.Author.Tests.{not-false}
-use Rattle.machine.specs.Save.{counter}
-use Rattle.savearea.specs.Next.{is_plain}
-use Rattle.parts.specs.Parts.{saved_at}
-use Rattle.tick.specs.Seat.{seat_of}
-use Rattle.kernel.proofs.Laws.Ticks.{Reckoned, none_yet, one_more}
+use Rattle.std.proofs.Common.{◌≡◌, ℕ, ◌+◌, ◌<◌, ◌≤◌, ◌⊎◌, sym, refl, ◌∙◌, inl, inr, ⊎_elim, arith, rules}
+use Rattle.kernel.proofs.Laws.Ticks.{none_yet, one_more}
 use Rattle.kernel.proofs.stretch.steps.Goals as goal
 
 fewer : (left n room pc : ℕ) → room < pc + 4 → (left < n) ⊎ (pc + 4 ≤ room) → left < n

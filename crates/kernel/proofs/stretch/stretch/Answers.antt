@@ -1,14 +1,11 @@
 -- Each turn is an interrupt or none, and some ticks more of the partition, the first at the count that the last turn left. Where it is no longer able,
 -- those that are left do nothing.
 use Rattle.std.proofs.Common.{◌≡◌, ℕ, ◌+◌, ◌-◌, ◌<◌, ◌≤◌, true, List, length, sym, refl, ◌∙◌, lt_of_lt_of_le, arith, rules}
-use borrow.Author.Tests.{not-true, not-false}
 use Rattle.machine.specs.Tick.{Seat}
-use Rattle.machine.specs.Local.{is_able}
 use Rattle.machine.specs.Place.{counts, count_after}
 use Rattle.savearea.specs.Next.{is_plain}
 use Rattle.kernel.specs.Stretch.{ticked_for}
 use Rattle.parts.specs.Parts.{saved_at}
-use Rattle.tick.specs.Seat.{seat_of}
 use Rattle.tick.proofs.Laws.Reach.{save_inside}
 use Rattle.kernel.proofs.Laws.Ticks.{Going, none_yet, went_on, all_done, idle_rest, to_code}
 use Rattle.kernel.proofs.stretch.stretch.Goals as goal
@@ -116,9 +113,13 @@ loop-left-smaller c =
     omega (arith, g.ready_ticks-left.ensures.0, g.take_interrupt-left.ensures.0)
 
 pub loop-left-preserved : goal.loop-left-preserved
-loop-left-preserved c = (search rules, (went _ _ _ _ _ _ _ _ _ _ _ _ (search rules) c.wrapping_add_u32-end.ensures.value
-    (took _ _ _ _ _ _ _ _ _ _ _ _ (search rules) c.wrapping_add_u32-end.ensures.value c.loop-left.invariant.1 c.take_interrupt-left.ensures)
-    c.ready_ticks-left.ensures), sym c.is_able.ensures ∙ c.if-not-is_able.false)
+loop-left-preserved c = (
+  search rules,
+  (went _ _ _ _ _ _ _ _ _ _ _ _ (search rules) c.wrapping_add_u32-end.ensures.value
+      (took _ _ _ _ _ _ _ _ _ _ _ _ (search rules) c.wrapping_add_u32-end.ensures.value c.loop-left.invariant.1 c.take_interrupt-left.ensures)
+      c.ready_ticks-left.ensures),
+  sym c.is_able.ensures ∙ c.if-not-is_able.false,
+)
 
 pub shape_of-memory : goal.shape_of-memory
 shape_of-memory c = c.loop-left.invariant.0

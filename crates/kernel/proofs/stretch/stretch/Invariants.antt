@@ -1,13 +1,10 @@
 -- Each turn is an interrupt or none, and some ticks more of the partition, the first at the count that the last turn left. Where it is no longer able,
 -- those that are left do nothing.
-use Rattle.std.proofs.Common.{◌≡◌, ℕ, ◌+◌, ◌≤◌, true, List, length, sym, refl, ◌∙◌, lt_of_lt_of_le, arith, rules}
-use borrow.Author.Tests.{not-true, not-false}
-use Rattle.machine.specs.Tick.{Seat}
+use Rattle.std.proofs.Common.{◌≡◌, true, length}
 use Rattle.machine.specs.Local.{is_able}
 use Rattle.parts.specs.Parts.{saved_at}
 use Rattle.tick.specs.Seat.{seat_of}
-use Rattle.tick.proofs.Laws.Reach.{save_inside}
-use Rattle.kernel.proofs.Laws.Ticks.{Going, none_yet, went_on, all_done, idle_rest, to_code}
+use Rattle.kernel.proofs.Laws.Ticks.{Going}
 use Rattle.kernel.proofs.stretch.stretch.Given as goal
 
 abbrev pub invariant-loop-left : goal.invariant-loop-left

@@ -1,5 +1,5 @@
 -- An interrupt is a tick at any count, and leaves the partition ready and in its handler; without one it is ready, since it is able.
-use Rattle.std.proofs.Common.{◌≡◌, ◌-◌, sym, refl, ◌∙◌, arith, rules}
+use Rattle.std.proofs.Common.{sym, ◌∙◌, arith}
 use Rattle.parts.specs.Parts.{saved_at}
 use Rattle.machine.proofs.Laws.Tests.{interrupts_due}
 use Rattle.savearea.proofs.Laws.Next.{plain_of}

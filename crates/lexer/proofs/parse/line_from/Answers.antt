@@ -3,7 +3,6 @@ use mathlib.Core.Path.{sym, ◌∙◌}
 use native.Mathlib.Omega.{arith}
 use Rattle.text.specs.Rest.{rest_read, after_first}
 use Rattle.text.proofs.Laws.Line.{line_read_lem, line_none, line_same}
-use borrow.Author.Rules.{rules}
 use Rattle.lexer.proofs.parse.line_from.Goals as goal
 
 pub returns-in_default : goal.returns-in_default

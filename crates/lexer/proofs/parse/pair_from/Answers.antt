@@ -1,6 +1,5 @@
 -- The last number of a kind that has two, by whether it is read.
 use Rattle.text.proofs.Laws.Line.{pair_read, pair_none}
-use borrow.Author.Rules.{rules}
 use Rattle.lexer.proofs.parse.pair_from.Goals as goal
 
 pub returns-in_default : goal.returns-in_default

@@ -8,7 +8,6 @@ use Rattle.text.specs.declared.line.Kind.TheVariants.{OfSegment, OfPartition, Of
 use Rattle.text.specs.declared.line.Line.TheVariants.{Segment, Partition, Right}
 use Rattle.text.proofs.Laws.Line.{second_none, third_read, third_none}
 use Rattle.text.proofs.Laws.Readers.{nothing, rest_bad}
-use borrow.Author.Rules.{rules}
 use Rattle.lexer.proofs.parse.triple_from.Goals as goal
 
 -- The kinds with three numbers.

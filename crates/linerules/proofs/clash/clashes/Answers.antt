@@ -2,7 +2,6 @@
 -- and the mask answers for the save segments.
 use mathlib.Core.Path.{sym, ◌∙◌}
 use native.Mathlib.Omega.{arith}
-use borrow.Author.Rules.{rules}
 use Rattle.policy.specs.Clash.{clashes}
 use Rattle.linerules.proofs.Laws.Ends.{none_past}
 use Rattle.linerules.proofs.clash.clashes.Goals as goal

@@ -1,10 +1,5 @@
 -- No segment passed overlaps, and the first that does is found.
-use Prim.Native.Nat.{◌-◌}
-use mathlib.Core.List.{[]}
-use borrow.Author.Rules.{rules}
-use Rattle.policy.specs.Clash.{overlaps}
-use Rattle.policy.proofs.Laws.Loops.{Searched, search_none, search_found, search_more, search_done}
-use Rattle.linerules.specs.Parts.{placed}
+use Rattle.policy.proofs.Laws.Loops.{search_none, search_found, search_more, search_done}
 use Rattle.linerules.proofs.clash.overlaps_earlier.Goals as goal
 
 pub loop-i-init : goal.loop-i-init

@@ -1,5 +1,4 @@
 -- The tests in the order of the definition.
-use borrow.Author.Rules.{rules}
 use Rattle.linerules.proofs.clash.partition_clashes.Goals as goal
 
 pub returns : goal.returns

@@ -1,10 +1,5 @@
 -- No partition passed shares, and the first that does is found.
-use Prim.Native.Nat.{◌-◌}
-use mathlib.Core.List.{[]}
-use borrow.Author.Rules.{rules}
-use Rattle.policy.specs.Clash.{shares}
-use Rattle.policy.proofs.Laws.Loops.{Searched, search_none, search_found, search_more, search_done}
-use Rattle.linerules.specs.Parts.{placed}
+use Rattle.policy.proofs.Laws.Loops.{search_none, search_found, search_more, search_done}
 use Rattle.linerules.proofs.clash.shares_earlier.Goals as goal
 
 pub loop-i-init : goal.loop-i-init

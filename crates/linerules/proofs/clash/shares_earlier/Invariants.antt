@@ -1,9 +1,8 @@
 -- No partition passed shares, and the first that does is found.
 use Prim.Native.Nat.{◌-◌}
 use mathlib.Core.List.{[]}
-use borrow.Author.Rules.{rules}
 use Rattle.policy.specs.Clash.{shares}
-use Rattle.policy.proofs.Laws.Loops.{Searched, search_none, search_found, search_more, search_done}
+use Rattle.policy.proofs.Laws.Loops.{Searched}
 use Rattle.linerules.specs.Parts.{placed}
 use Rattle.linerules.proofs.clash.shares_earlier.Given as goal
 

@@ -1,6 +1,5 @@
 -- Neither rule applies to the line that would put the partition there.
 use mathlib.Core.Path.{sym, ◌∙◌}
-use borrow.Author.Rules.{rules}
 use Rattle.policy.specs.Range.{out_of_range}
 use Rattle.policy.specs.Clash.{clashes}
 use Rattle.policy.specs.Sound.{good_partition}

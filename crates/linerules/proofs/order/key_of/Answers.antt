@@ -1,5 +1,4 @@
 -- Each arm is the definition at that kind of line.
-use borrow.Author.Rules.{rules}
 use Rattle.linerules.proofs.order.key_of.Goals as goal
 
 pub returns-in-Bad : goal.returns-in-Bad

@@ -1,6 +1,5 @@
 -- Each kind of line is asked what the definition asks of it; what it does not ask of a kind is false there.
 use mathlib.Core.Bool.{or-false}
-use borrow.Author.Rules.{rules}
 use Rattle.policy.specs.Order.{out_of_order}
 use Rattle.linerules.proofs.order.out_of_order.Goals as goal
 

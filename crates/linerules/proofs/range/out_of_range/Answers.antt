@@ -1,5 +1,4 @@
 -- Each kind of line has its own test, which is the definition at that kind.
-use borrow.Author.Rules.{rules}
 use Rattle.policy.specs.Range.{out_of_range}
 use Rattle.linerules.proofs.range.out_of_range.Goals as goal
 

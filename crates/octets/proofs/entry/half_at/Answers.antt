@@ -1,7 +1,6 @@
 -- In the slice it is the entry; past the end the list gives 0 too.
 use mathlib.Core.Path.{sym}
 use native.Mathlib.Omega.{arith}
-use borrow.Author.Rules.{rules}
 use lib.ListN.{get_or-eq_default}
 use Rattle.octets.proofs.entry.half_at.Goals as goal
 

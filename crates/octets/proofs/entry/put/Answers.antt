@@ -1,7 +1,6 @@
 -- Past the end, where the test fails, `set` changes nothing.
 use mathlib.Core.Path.{sym}
 use lib.Seq.{set_out}
-use borrow.Author.Rules.{rules}
 use Rattle.octets.proofs.entry.put.Goals as goal
 
 pub returns-else-at-s : goal.returns-else-at-s

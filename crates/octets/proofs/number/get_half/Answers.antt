@@ -1,6 +1,5 @@
 -- The two bytes read, joined as the definition joins them.
 use Rattle.octets.specs.Numbers.{half}
-use borrow.Author.Rules.{rules}
 use Rattle.octets.proofs.number.get_half.Goals as goal
 
 pub returns : goal.returns

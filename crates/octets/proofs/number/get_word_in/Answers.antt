@@ -1,6 +1,5 @@
 -- The four bytes read, joined as the definition joins them.
 use Rattle.octets.specs.Numbers.{word}
-use borrow.Author.Rules.{rules}
 use Rattle.octets.proofs.number.get_word_in.Goals as goal
 
 pub returns : goal.returns

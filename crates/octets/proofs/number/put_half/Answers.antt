@@ -1,6 +1,5 @@
 -- The two bytes are put in the order of the definition.
 use Rattle.octets.specs.Numbers.{with_half}
-use borrow.Author.Rules.{rules}
 use Rattle.octets.proofs.number.put_half.Goals as goal
 
 pub returns : goal.returns

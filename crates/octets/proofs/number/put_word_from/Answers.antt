@@ -1,6 +1,5 @@
 -- The four bytes are put in the order of the definition.
 use Rattle.octets.specs.Numbers.{with_word}
-use borrow.Author.Rules.{rules}
 use Rattle.octets.proofs.number.put_word_from.Goals as goal
 
 pub returns : goal.returns

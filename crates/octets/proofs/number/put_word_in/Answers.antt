@@ -2,7 +2,6 @@
 use native.Mathlib.Omega.{arith}
 use lib.ListN.{length-set}
 use Rattle.octets.specs.Numbers.{with_word}
-use borrow.Author.Rules.{rules}
 use Rattle.octets.proofs.number.put_word_in.Goals as goal
 
 pub bounds-s-i-2 : goal.bounds-s-i-2

@@ -1,6 +1,5 @@
 -- The four bytes read, joined as the definition joins them.
 use Rattle.octets.specs.Numbers.{word}
-use borrow.Author.Rules.{rules}
 use Rattle.octets.proofs.number.word_from.Goals as goal
 
 pub returns : goal.returns

@@ -4,8 +4,7 @@ use mathlib.Core.Path.{◌≡◌, refl, sym, ◌∙◌}
 use mathlib.Core.Bool.{Bool, true, false, ◌||◌}
 use lib.Dec.{leb}
 use native.Mathlib.Omega.{arith}
-use borrow.Author.Rules.{rules}
-use borrow.Author.Tests.{not-true, not-false, leb-false}
+use borrow.Author.Tests.{leb-false}
 use Rattle.policy.specs.Limits.{single}
 use Rattle.policy.specs.Record.{tables_of}
 use Rattle.policy.specs.Sound.{sound_of}

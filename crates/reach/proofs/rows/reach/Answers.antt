@@ -1,11 +1,7 @@
 -- A record that isn't sound has no row; the rows of a sound one, spread over all its segments, are the report.
-use mathlib.Core.Path.{◌≡◌, sym, ◌∙◌}
-use mathlib.Core.Bool.{true}
-use borrow.Author.Rules.{rules}
-use borrow.Author.Tests.{not-true, not-false}
+use mathlib.Core.Path.{sym, ◌∙◌}
 use Rattle.policy.specs.Limits.{single}
 use Rattle.policy.specs.Record.{tables_of}
-use Rattle.policy.specs.Sound.{sound_of}
 use Rattle.reach.specs.Answers.{reach_asked, reach_answer}
 use Rattle.reach.proofs.Laws.Answers.{few, wide, rows_are}
 use Rattle.reach.proofs.rows.reach.Goals as goal

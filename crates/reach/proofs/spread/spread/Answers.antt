@@ -1,9 +1,7 @@
 -- Each turn spreads one row more; the rows ahead are as they were.
-use Prim.Native.Nat.{◌-◌, ◌≤◌}
 use mathlib.Core.Path.{◌≡◌, refl}
 use lib.ListN.{length, length-set}
 use native.Mathlib.Omega.{arith}
-use borrow.Author.Rules.{rules}
 use Rattle.reach.specs.Spread.{spread_to}
 use Rattle.reach.proofs.Laws.Spread.{to_more}
 use Rattle.reach.proofs.spread.spread.Goals as goal

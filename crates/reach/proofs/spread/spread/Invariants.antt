@@ -1,11 +1,8 @@
 -- Each turn spreads one row more; the rows ahead are as they were.
 use Prim.Native.Nat.{◌-◌, ◌≤◌}
-use mathlib.Core.Path.{◌≡◌, refl}
-use lib.ListN.{length, length-set}
-use native.Mathlib.Omega.{arith}
-use borrow.Author.Rules.{rules}
+use mathlib.Core.Path.{◌≡◌}
+use lib.ListN.{length}
 use Rattle.reach.specs.Spread.{spread_to}
-use Rattle.reach.proofs.Laws.Spread.{to_more}
 use Rattle.reach.proofs.spread.spread.Given as goal
 
 abbrev pub invariant-loop-t : goal.invariant-loop-t

@@ -1,9 +1,7 @@
 -- Each turn takes one segment more among the inner ones.
-use Prim.Native.Nat.{◌-◌, ◌≤◌}
 use mathlib.Core.Path.{◌≡◌, refl, ap, ◌∙◌}
 use native.Mathlib.Numerals.{add-one}
 use native.Mathlib.Omega.{arith}
-use borrow.Author.Rules.{rules}
 use lib.ListN.{length}
 use Rattle.reach.specs.Spread.{spread_to, spread_up}
 use Rattle.reach.proofs.Laws.Spread.{to_long}

@@ -1,12 +1,8 @@
 -- Each turn takes one segment more among the inner ones.
 use Prim.Native.Nat.{◌-◌, ◌≤◌}
-use mathlib.Core.Path.{◌≡◌, refl, ap, ◌∙◌}
-use native.Mathlib.Numerals.{add-one}
-use native.Mathlib.Omega.{arith}
-use borrow.Author.Rules.{rules}
+use mathlib.Core.Path.{◌≡◌}
 use lib.ListN.{length}
-use Rattle.reach.specs.Spread.{spread_to, spread_up}
-use Rattle.reach.proofs.Laws.Spread.{to_long}
+use Rattle.reach.specs.Spread.{spread_up}
 use Rattle.reach.proofs.spread.spread_all.Given as goal
 
 abbrev pub invariant-loop-k : goal.invariant-loop-k

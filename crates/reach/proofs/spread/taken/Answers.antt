@@ -1,5 +1,4 @@
 -- Either answer by the test.
-use borrow.Author.Rules.{rules}
 use borrow.Author.Tests.{eq-eqb, ne_eqb}
 use Rattle.reach.proofs.spread.taken.Goals as goal
 

@@ -1,6 +1,5 @@
 -- By the number: a refusal's row, or the answer about two segments.
 use native.Mathlib.Omega.{arith}
-use borrow.Author.Rules.{rules}
 use Rattle.policy.specs.Limits.{single}
 use Rattle.policy.specs.Record.{tables_of}
 use Rattle.report.proofs.Laws.Rows.{refused_length}

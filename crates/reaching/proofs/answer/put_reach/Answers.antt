@@ -1,6 +1,5 @@
 -- One part after another, with room for each.
 use native.Mathlib.Omega.{arith}
-use borrow.Author.Rules.{rules}
 use Rattle.writing.proofs.Laws.Written.{written_then}
 use Rattle.reaching.specs.Question.{reach_line}
 use Rattle.reaching.proofs.Laws.Lines.{field_short}

@@ -1,5 +1,4 @@
 -- Either word by the test.
-use borrow.Author.Rules.{rules}
 use Rattle.reaching.proofs.answer.put_yes.Goals as goal
 
 pub returns-then-yes : goal.returns-then-yes

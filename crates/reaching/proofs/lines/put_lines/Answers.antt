@@ -1,11 +1,7 @@
 -- Each turn writes one line more, of at most 107 bytes.
-use Prim.Native.Nat.{◌≤◌, ◌-◌}
 use mathlib.Core.Path.{◌≡◌, refl, ◌∙◌}
 use native.Mathlib.Omega.{arith}
-use lib.ListN.{length}
-use borrow.Author.Rules.{rules}
 use Rattle.policy.specs.Below.{list_below}
-use Rattle.writing.specs.Written.{Written}
 use Rattle.writing.proofs.Laws.Written.{written_none, written_long}
 use Rattle.reaching.specs.Report.{segment_lines}
 use Rattle.reaching.proofs.Laws.Lines.{bit_row, lines_more, rows_short}

@@ -1,14 +1,11 @@
 -- Each turn writes one line more, of at most 107 bytes.
 use Prim.Native.Nat.{◌≤◌, ◌-◌}
-use mathlib.Core.Path.{◌≡◌, refl, ◌∙◌}
-use native.Mathlib.Omega.{arith}
+use mathlib.Core.Path.{◌≡◌}
 use lib.ListN.{length}
-use borrow.Author.Rules.{rules}
 use Rattle.policy.specs.Below.{list_below}
 use Rattle.writing.specs.Written.{Written}
-use Rattle.writing.proofs.Laws.Written.{written_none, written_long}
 use Rattle.reaching.specs.Report.{segment_lines}
-use Rattle.reaching.proofs.Laws.Lines.{bit_row, lines_more, rows_short}
+use Rattle.reaching.proofs.Laws.Lines.{bit_row}
 use Rattle.reaching.proofs.lines.put_lines.Given as goal
 
 abbrev pub invariant-loop-t : goal.invariant-loop-t

@@ -1,7 +1,6 @@
 -- The number's field, or nothing, by the test.
 use mathlib.Core.Path.{sym, ◌∙◌}
 use native.Mathlib.Omega.{arith}
-use borrow.Author.Rules.{rules}
 use Rattle.writing.proofs.Laws.Written.{written_none}
 use Rattle.reaching.proofs.Laws.Lines.{field_short}
 use Rattle.reaching.proofs.lines.put_source.Goals as goal

@@ -1,15 +1,11 @@
 -- Each turn writes one source more, where the row has it.
 use Prim.Native.Nat.{◌≤◌, ◌-◌}
-use mathlib.Core.Path.{◌≡◌, refl, ◌∙◌}
-use native.Mathlib.Omega.{arith}
+use mathlib.Core.Path.{◌≡◌}
 use lib.ListN.{length}
-use borrow.Author.Rules.{rules}
 use Rattle.bits.specs.Masks.{has}
 use Rattle.reach.specs.Rows.{those_below}
 use Rattle.writing.specs.Row.{fields}
 use Rattle.writing.specs.Written.{Written}
-use Rattle.writing.proofs.Laws.Written.{written_none, written_long}
-use Rattle.reaching.proofs.Laws.Lines.{sources_more, sources_short}
 use Rattle.reaching.proofs.lines.put_sources.Given as goal
 
 abbrev pub invariant-loop-s : goal.invariant-loop-s

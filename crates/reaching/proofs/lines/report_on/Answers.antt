@@ -1,13 +1,8 @@
 -- A refused text's one line; of an accepted one the lines of the masks, which are the report.
-use mathlib.Core.Path.{◌≡◌, sym, ap, ◌∙◌}
-use mathlib.Core.Bool.{true}
+use mathlib.Core.Path.{sym, ap, ◌∙◌}
 use native.Mathlib.Omega.{arith}
-use borrow.Author.Rules.{rules}
-use borrow.Author.Tests.{not-true, not-false}
 use Rattle.policy.specs.Limits.{single}
 use Rattle.policy.specs.Record.{tables_of}
-use Rattle.policy.specs.Refusals.{is_accepted}
-use Rattle.policy.specs.Sound.{sound_of}
 use Rattle.policy.proofs.Lawful.{lawful}
 use Rattle.reach.proofs.Agrees.{masks_report}
 use Rattle.writing.proofs.Laws.Written.{written_within}

@@ -1,5 +1,4 @@
 -- By the cases of both.
-use borrow.Author.Rules.{rules}
 use Rattle.reaching.proofs.words.both.Goals as goal
 
 pub returns-in-Value-target : goal.returns-in-Value-target

@@ -1,7 +1,6 @@
 -- One part after another.
 use native.Mathlib.Omega.{arith}
 use lib.ListN.{length-append}
-use borrow.Author.Rules.{rules}
 use Rattle.writing.proofs.Laws.Written.{written_then, written_long}
 use Rattle.reaching.proofs.words.put_words.Goals as goal
 

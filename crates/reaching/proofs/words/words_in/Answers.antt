@@ -1,6 +1,5 @@
 -- Each word is read where the one before left the place.
 use mathlib.Core.Path.{◌∙◌}
-use borrow.Author.Rules.{rules}
 use Rattle.reaching.proofs.Laws.Words.{words_none, words_both}
 use Rattle.reaching.proofs.words.words_in.Goals as goal
 

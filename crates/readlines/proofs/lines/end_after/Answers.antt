@@ -1,6 +1,5 @@
 -- The greater of both is past each of them.
 use native.Mathlib.Omega.{arith}
-use borrow.Author.Rules.{rules}
 use Rattle.readlines.proofs.lines.end_after.Goals as goal
 
 pub returns-then-ended-end : goal.returns-then-ended-end

@@ -1,7 +1,6 @@
 -- Whatever the refusal, the record is that of zeros.
 use mathlib.Core.Path.{◌≡◌, refl}
 use mathlib.Core.Bool.{Bool, true, false, cond}
-use borrow.Author.Rules.{rules}
 use Rattle.policy.specs.Limits.{single}
 use Rattle.policy.specs.Tables.{Tables, zeros}
 use Rattle.policy.specs.Refusals.{is_accepted}

@@ -1,5 +1,4 @@
 -- The code asks what the letters give, as the definition does.
-use borrow.Author.Rules.{rules}
 use Rattle.readlines.proofs.rights.with_write.Goals as goal
 
 pub returns-then-mode : goal.returns-then-mode

@@ -1,13 +1,7 @@
 -- The loop has summed the worth of the partitions that it has passed, and `bit` is what the next one is worth.
 use Prim.Native.Nat.{◌-◌, ◌^◌, ◌≤◌}
-use mathlib.Core.Path.{◌≡◌, refl}
-use native.Mathlib.Nat.{pow-suc}
-use native.Mathlib.Numerals.{add-one}
-use native.Mathlib.Omega.{arith}
-use borrow.Author.Rules.{rules}
-use Rattle.bits.specs.Masks.{mask_of}
+use mathlib.Core.Path.{◌≡◌}
 use Rattle.report.specs.Masks.{mask_in}
-use Rattle.report.proofs.Laws.Masks.{mask_next, mask_most, bit_small}
 use Rattle.report.proofs.masks.masks_of.Given as goal
 
 abbrev pub invariant-loop-p : goal.invariant-loop-p

@@ -1,7 +1,6 @@
 -- Either answer by the test.
 use mathlib.Core.Path.{refl}
 use native.Mathlib.Omega.{arith}
-use borrow.Author.Rules.{rules}
 use Rattle.report.proofs.masks.worth.Goals as goal
 
 pub returns-then-own-has_bit : goal.returns-then-own-has_bit

@@ -1,6 +1,5 @@
 -- The row of the record's counts, and of the round that was summed.
 use native.Mathlib.Omega.{arith}
-use borrow.Author.Rules.{rules}
 use Rattle.policy.specs.Tables.{view_of}
 use Rattle.policy.specs.Record.{tables_of}
 use Rattle.report.specs.Report.{accepted_row}

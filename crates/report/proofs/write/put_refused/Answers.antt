@@ -1,6 +1,5 @@
 -- The row of the refusal's number and line.
 use native.Mathlib.Omega.{arith}
-use borrow.Author.Rules.{rules}
 use Rattle.report.specs.Report.{refused_row}
 use Rattle.report.proofs.Laws.Rows.{number_small, refused_length}
 use Rattle.report.proofs.write.put_refused.Goals as goal

@@ -1,13 +1,7 @@
 -- The loop has written the rows of the segments that it has passed, at most 19 bytes each.
-use Prim.Native.Nat.{◌-◌, ◌≤◌, ◌<◌}
-use mathlib.Core.Path.{◌≡◌}
-use native.Mathlib.Omega.{arith}
-use borrow.Author.Rules.{rules}
+use Prim.Native.Nat.{◌-◌, ◌≤◌}
 use Rattle.report.specs.Rows.{rows_in}
 use Rattle.writing.specs.Written.{Written}
-use Rattle.writing.proofs.Laws.Written.{written_none}
-use Rattle.report.proofs.Laws.Masks.{mask_small}
-use Rattle.report.proofs.Laws.Rows.{rows_more, rows_length, segment_length}
 use Rattle.report.proofs.write.put_rows.Given as goal
 
 abbrev pub invariant-loop-s : goal.invariant-loop-s

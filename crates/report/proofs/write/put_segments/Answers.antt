@@ -1,5 +1,4 @@
 -- The widened masks are the record's, and the rows by its lists are those of its view.
-use borrow.Author.Rules.{rules}
 use Rattle.policy.specs.Record.{tables_of}
 use Rattle.report.proofs.Laws.Rows.{rows_same}
 use Rattle.report.proofs.write.put_segments.Goals as goal

@@ -1,7 +1,6 @@
 -- An accepted text's first row and then its segments' rows are its report, and a refused text's one row.
 use mathlib.Core.Path.{sym, ◌∙◌}
 use native.Mathlib.Omega.{arith}
-use borrow.Author.Rules.{rules}
 use Rattle.writing.proofs.Laws.Written.{written_then, written_whole}
 use Rattle.report.specs.Report.{report_with}
 use Rattle.report.proofs.Laws.Rows.{accepted_length}

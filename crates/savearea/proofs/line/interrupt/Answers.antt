@@ -1,6 +1,5 @@
 -- The fields are read before any is put, the line taken is the lowest of those due, and the puts are in the order of the definition.
 use Rattle.machine.specs.Local.{entered, interrupted}
-use borrow.Author.Rules.{rules}
 use Rattle.savearea.proofs.line.interrupt.Goals as goal
 
 pub take_line-taken-requires : goal.take_line-taken-requires

@@ -1,7 +1,6 @@
 -- Each return follows from the tests on the way to it: which of them is made first does not matter.
 use mathlib.Core.Bool.{and-false}
 use mathlib.Core.Path.{sym, ◌∙◌}
-use borrow.Author.Rules.{rules}
 use borrow.Author.Tests.{eq-eqb, ne_eqb}
 use Rattle.machine.specs.Local.{takes_interrupt}
 use Rattle.savearea.proofs.line.takes_interrupt.Goals as goal

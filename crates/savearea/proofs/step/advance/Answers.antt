@@ -3,7 +3,6 @@ use Prim.Native.Nat.{◌+◌}
 use mathlib.Core.Path.{sym}
 use Rattle.machine.specs.Local.{advanced}
 use Rattle.savearea.proofs.Laws.Counters.{counter_put}
-use borrow.Author.Rules.{rules}
 use Rattle.savearea.proofs.step.advance.Goals as goal
 
 pub returns : goal.returns

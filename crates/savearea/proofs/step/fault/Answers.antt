@@ -1,6 +1,5 @@
 -- The state and the fault byte are put in the order of the definition.
 use Rattle.machine.specs.Faults.{faults}
-use borrow.Author.Rules.{rules}
 use Rattle.savearea.proofs.step.fault.Goals as goal
 
 pub returns : goal.returns

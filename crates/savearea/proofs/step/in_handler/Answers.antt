@@ -1,5 +1,4 @@
 -- The byte read is the one that the definition tests.
-use borrow.Author.Rules.{rules}
 use Rattle.savearea.proofs.step.in_handler.Goals as goal
 
 pub returns : goal.returns

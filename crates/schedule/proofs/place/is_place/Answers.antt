@@ -1,5 +1,4 @@
 -- The tests are the definition's, in its order.
-use borrow.Author.Rules.{rules}
 use Rattle.schedule.proofs.place.is_place.Goals as goal
 
 pub returns : goal.returns

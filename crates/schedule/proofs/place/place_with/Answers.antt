@@ -1,5 +1,4 @@
 -- What the slot has left is taken from what it has.
-use borrow.Author.Rules.{rules}
 use Rattle.schedule.proofs.place.place_with.Goals as goal
 
 pub returns : goal.returns

@@ -1,5 +1,4 @@
 -- What the slot has used is taken from what it has.
-use borrow.Author.Rules.{rules}
 use Rattle.schedule.proofs.place.turn_at.Goals as goal
 
 pub returns : goal.returns

@@ -1,5 +1,4 @@
 -- The loop has summed the ticks of the slots that it has passed, at most 1,000 each.
-use Prim.Native.Nat.{◌+◌}
 use mathlib.Core.Path.{◌≡◌, refl}
 use native.Mathlib.Omega.{arith}
 use lib.ListN.{get_or}

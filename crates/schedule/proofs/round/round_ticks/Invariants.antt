@@ -1,10 +1,8 @@
 -- The loop has summed the ticks of the slots that it has passed, at most 1,000 each.
 use Prim.Native.Nat.{◌+◌}
-use mathlib.Core.Path.{◌≡◌, refl}
-use native.Mathlib.Omega.{arith}
+use mathlib.Core.Path.{◌≡◌}
 use lib.ListN.{get_or}
 use Rattle.policy.specs.Below.{sum_below}
-use Rattle.policy.proofs.Laws.Sums.{sum_next, sum_most}
 use Rattle.schedule.proofs.round.round_ticks.Given as goal
 
 abbrev pub invariant-loop-left : goal.invariant-loop-left

@@ -1,11 +1,7 @@
 -- A record that isn't sound has zeros alone; the slots of a sound one can be walked through.
-use mathlib.Core.Path.{◌≡◌, refl, sym, ◌∙◌}
-use mathlib.Core.Bool.{true}
-use borrow.Author.Rules.{rules}
-use borrow.Author.Tests.{not-true, not-false}
+use mathlib.Core.Path.{refl, sym, ◌∙◌}
 use Rattle.policy.specs.Limits.{single}
 use Rattle.policy.specs.Record.{tables_of}
-use Rattle.policy.specs.Sound.{sound_of}
 use Rattle.policy.specs.Tables.{view_of}
 use Rattle.policy.proofs.Laws.Zeros.{zero_at}
 use Rattle.sheet.specs.Answer.{sheet_answer}

@@ -1,15 +1,10 @@
 -- Each turn goes one slot back: behind it its partition was silent until the slot that it has next, and it is that slot for those before.
-use Prim.Native.Nat.{◌+◌, ◌-◌, ◌<◌, ◌≤◌}
-use mathlib.Core.Path.{◌≡◌, refl, subst}
-use native.Mathlib.Omega.{arith}
-use borrow.Author.Rules.{rules}
-use lib.ListN.{get_or, length, length-set}
-use Rattle.policy.specs.Below.{list_below}
+use Prim.Native.Nat.{◌≤◌}
+use mathlib.Core.Path.{◌≡◌}
+use lib.ListN.{length}
 use Rattle.policy.specs.View.{View}
-use Rattle.policy.specs.Schedule.{silence}
 use Rattle.sheet.specs.Slots.{Scheduled}
-use Rattle.sheet.proofs.Laws.Walk.{lent, lent_scheduled}
-use Rattle.sheet.proofs.Laws.Longest.{Walked, walked_none, walked_more, walked_all, far_below}
+use Rattle.sheet.proofs.Laws.Longest.{Walked}
 use Rattle.sheet.proofs.longest.find_longest.Given as goal
 
 abbrev pub invariant-loop-k : goal.invariant-loop-k

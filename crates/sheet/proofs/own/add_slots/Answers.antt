@@ -1,14 +1,11 @@
 -- Each turn goes one slot back: its ticks are its partition's, and it is the slot that its partition has next.
-use Prim.Native.Nat.{ℕ, ◌+◌, ◌*◌, ◌-◌, ◌<◌, ◌≤◌}
+use Prim.Native.Nat.{◌+◌, ◌-◌, ◌<◌, ◌≤◌}
 use mathlib.Core.Path.{◌≡◌, refl, subst}
 use native.Mathlib.Omega.{arith}
-use borrow.Author.Rules.{rules}
 use lib.ListN.{get_or, length, length-set}
 use Rattle.policy.specs.Below.{list_below}
-use Rattle.policy.specs.Limits.{most_ticks}
 use Rattle.policy.specs.Schedule.{own_ticks}
-use Rattle.policy.specs.View.{View}
-use Rattle.sheet.specs.Slots.{Scheduled, first_begin}
+use Rattle.sheet.specs.Slots.{first_begin}
 use Rattle.sheet.proofs.Laws.Walk.{Added, each_set, added_none, added_more, far_all, own_all, ahead_all}
 use Rattle.sheet.proofs.own.add_slots.Goals as goal
 

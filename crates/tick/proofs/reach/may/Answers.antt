@@ -1,7 +1,6 @@
 -- Past the segments nothing is reached, and below them the mask's bit decides.
 use borrow.Author.Tests.{lt-ltb, le-ltb}
 use Rattle.machine.specs.Tick.{reaches}
-use borrow.Author.Rules.{rules}
 use Rattle.tick.proofs.reach.may.Goals as goal
 
 pub returns-then-c-segments : goal.returns-then-c-segments

@@ -1,9 +1,6 @@
 -- The invariant: all are 0 where what was read is 0 and what is left is.
 use Prim.Native.Nat.{◌-◌}
-use mathlib.Core.Path.{refl}
-use native.Mathlib.Omega.{arith}
-use borrow.Author.Rules.{rules}
-use Rattle.validate.proofs.Laws.Zeros.{ZeroTo, zero_more, zero_done}
+use Rattle.validate.proofs.Laws.Zeros.{ZeroTo}
 use Rattle.validate.proofs.arrays.partitions_unused.Given as goal
 
 abbrev pub invariant-loop-p : goal.invariant-loop-p

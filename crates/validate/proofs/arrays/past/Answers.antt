@@ -1,5 +1,4 @@
 -- By cases.
-use borrow.Author.Rules.{rules}
 use Rattle.validate.proofs.arrays.past.Goals as goal
 
 pub returns-else-used : goal.returns-else-used

@@ -1,8 +1,6 @@
 -- The loop goes on to the last place; the invariant: nothing strays where all holds before i.
-use Prim.Native.Nat.{◌-◌}
 use native.Mathlib.Omega.{arith}
-use borrow.Author.Rules.{rules}
-use Rattle.validate.proofs.Laws.Tables.{Strays, strays_none, strays_more, strays_done}
+use Rattle.validate.proofs.Laws.Tables.{strays_none, strays_more, strays_done}
 use Rattle.validate.proofs.arrays.tables_hold.Goals as goal
 
 pub loop-i-init : goal.loop-i-init

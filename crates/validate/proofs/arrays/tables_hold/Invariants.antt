@@ -1,8 +1,6 @@
 -- The loop goes on to the last place; the invariant: nothing strays where all holds before i.
 use Prim.Native.Nat.{◌-◌}
-use native.Mathlib.Omega.{arith}
-use borrow.Author.Rules.{rules}
-use Rattle.validate.proofs.Laws.Tables.{Strays, strays_none, strays_more, strays_done}
+use Rattle.validate.proofs.Laws.Tables.{Strays}
 use Rattle.validate.proofs.arrays.tables_hold.Given as goal
 
 abbrev pub invariant-loop-i : goal.invariant-loop-i

@@ -1,6 +1,5 @@
 -- The greater of both ends is past each of them.
 use native.Mathlib.Omega.{arith}
-use borrow.Author.Rules.{rules}
 use Rattle.validate.proofs.Laws.Ends.{ended_next}
 use Rattle.validate.proofs.entries.end_after.Goals as goal
 

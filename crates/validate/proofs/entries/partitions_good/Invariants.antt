@@ -1,11 +1,10 @@
 -- The loop stops at the first partition that fails; the invariant: each before i passes.
 use Prim.Native.Nat.{◌-◌}
 use mathlib.Core.List.{[]}
-use borrow.Author.Rules.{rules}
 use Rattle.policy.specs.Limits.{single}
 use Rattle.policy.specs.Sound.{good_partition}
 use Rattle.linerules.specs.Parts.{placed}
-use Rattle.policy.proofs.Laws.Loops.{Tested, test_none, test_found, test_more, test_done}
+use Rattle.policy.proofs.Laws.Loops.{Tested}
 use Rattle.validate.proofs.entries.partitions_good.Given as goal
 
 abbrev pub invariant-loop-i : goal.invariant-loop-i

@@ -1,14 +1,8 @@
 -- The loop stops at the first segment that fails; the invariant: each before i passes, and they have ended.
-use Prim.Native.Nat.{◌-◌}
 use mathlib.Core.Path.{ap}
 use mathlib.Core.Bool.{not}
-use mathlib.Core.List.{[]}
 use native.Mathlib.Omega.{arith}
-use borrow.Author.Rules.{rules}
-use Rattle.policy.specs.Limits.{single}
-use Rattle.policy.specs.Sound.{good_segment}
-use Rattle.linerules.specs.Parts.{EndedBy, placed}
-use Rattle.policy.proofs.Laws.Loops.{Tested, test_none, test_found, test_more, test_done}
+use Rattle.policy.proofs.Laws.Loops.{test_none, test_found, test_more, test_done}
 use Rattle.validate.proofs.entries.segments_good.Goals as goal
 
 pub loop-i-init : goal.loop-i-init

@@ -1,17 +1,12 @@
 -- The loop goes on to the last target; the invariant: no bit is stray where each pair with a target before t is good.
 use Prim.Native.Nat.{◌-◌, ◌≤◌}
-use mathlib.Core.Path.{◌≡◌, refl, ◌∙◌}
+use mathlib.Core.Path.{◌≡◌}
 use mathlib.Core.List.{[]}
-use native.Mathlib.Nat.{mod-eq_of_lt, one-mul}
-use native.Mathlib.Omega.{arith}
-use borrow.Author.Rules.{rules}
 use lib.Dec.{eqb}
-use lib.Pow.{pow-lt}
 use Rattle.policy.specs.Below.{each_below}
 use Rattle.policy.specs.Limits.{single}
 use Rattle.policy.specs.Sound.{good_flow}
 use Rattle.wholerules.specs.Parts.{parts_of}
-use Rattle.validate.proofs.Laws.Flows.{beyond_is, row_more, there_under, rows_told}
 use Rattle.validate.proofs.rights.flows_good.Given as goal
 
 abbrev pub invariant-loop-t : goal.invariant-loop-t

@@ -1,6 +1,5 @@
 -- By cases.
 use native.Mathlib.Nat.{mod-eq_of_lt, one-mul}
-use borrow.Author.Rules.{rules}
 use lib.Pow.{pow-lt}
 use Rattle.bits.proofs.Laws.Sets.{none_is, one_is}
 use Rattle.validate.proofs.rights.low_bit_of.Goals as goal

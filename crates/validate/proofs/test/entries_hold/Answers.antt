@@ -1,6 +1,5 @@
 -- The code makes the definition's tests in another order, each on the arrays that it reads.
 use native.Mathlib.Omega.{arith}
-use borrow.Author.Rules.{rules}
 use Rattle.policy.specs.Range.{out_of_range}
 use Rattle.policy.specs.Clash.{clashes}
 use Rattle.policy.specs.Sound.{good_segment, good_partition, good_right, good_flow, good_slot}

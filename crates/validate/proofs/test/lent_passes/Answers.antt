@@ -3,7 +3,6 @@ use mathlib.Core.Path.{◌≡◌}
 use mathlib.Core.Bool.{true, false, and-true}
 use mathlib.Core.List.{[]}
 use native.Mathlib.Omega.{arith}
-use borrow.Author.Tests.{not-true, not-false}
 use Rattle.policy.proofs.Entries.{Fit, counts, fit_of}
 use Rattle.policy.specs.Limits.{single}
 use Rattle.policy.specs.Sound.{counts_fit}

@@ -1,5 +1,4 @@
 -- The masks of 64 bits are the same numbers.
-use borrow.Author.Rules.{rules}
 use Rattle.validate.proofs.test.whole_passes.Goals as goal
 
 pub returns : goal.returns

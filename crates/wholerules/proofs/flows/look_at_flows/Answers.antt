@@ -1,7 +1,6 @@
 -- After all targets what has been found is rule 8's answer.
 use mathlib.Core.Path.{◌∙◌}
 use mathlib.Core.List.{[]}
-use borrow.Author.Rules.{rules}
 use Rattle.policy.specs.ByTarget.{found_after}
 use Rattle.policy.proofs.ByTarget.{found_all}
 use Rattle.wholerules.specs.Parts.{parts_of}

@@ -1,14 +1,9 @@
 -- The loop carries what has been found: the invariant is the definition's value after the targets before t.
-use Prim.Native.Nat.{◌-◌, ◌<◌, ◌≤◌}
-use mathlib.Core.Path.{◌≡◌, refl, ◌∙◌}
+use Prim.Native.Nat.{◌-◌, ◌≤◌}
+use mathlib.Core.Path.{◌≡◌}
 use mathlib.Core.List.{[]}
-use native.Mathlib.Omega.{arith}
-use borrow.Author.Rules.{rules}
 use Rattle.policy.specs.ByTarget.{found_after}
-use Rattle.policy.proofs.ByTarget.{found_next}
 use Rattle.wholerules.specs.Parts.{parts_of}
-use Rattle.wholerules.proofs.Laws.Lackers.{lackers_told}
-use Rattle.wholerules.proofs.Laws.Sources.{target_told}
 use Rattle.wholerules.proofs.flows.missing_after.Given as goal
 
 abbrev pub invariant-loop-t : goal.invariant-loop-t

@@ -1,8 +1,6 @@
 -- The loop gathers what is asked for; the invariant: it is what the partitions before p ask for.
-use Prim.Native.Nat.{◌-◌, ◌≤◌}
 use mathlib.Core.Path.{◌≡◌, refl, ◌∙◌}
 use native.Mathlib.Omega.{arith}
-use borrow.Author.Rules.{rules}
 use Rattle.wholerules.specs.Masks.{asked_into}
 use Rattle.wholerules.proofs.Laws.Asked.{asked_more}
 use Rattle.wholerules.proofs.masks.asked_into.Goals as goal

@@ -1,10 +1,7 @@
 -- The loop gathers what is asked for; the invariant: it is what the partitions before p ask for.
 use Prim.Native.Nat.{◌-◌, ◌≤◌}
-use mathlib.Core.Path.{◌≡◌, refl, ◌∙◌}
-use native.Mathlib.Omega.{arith}
-use borrow.Author.Rules.{rules}
+use mathlib.Core.Path.{◌≡◌}
 use Rattle.wholerules.specs.Masks.{asked_into}
-use Rattle.wholerules.proofs.Laws.Asked.{asked_more}
 use Rattle.wholerules.proofs.masks.asked_into.Given as goal
 
 abbrev pub invariant-loop-p : goal.invariant-loop-p

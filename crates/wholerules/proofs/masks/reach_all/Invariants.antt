@@ -1,25 +1,18 @@
 -- The loop writes each partition's masks at its place; the invariant: those before p are written, all that they have is gathered, and of their save
 -- segments it is known which lack a line and whether one has a stray source.
 use Prim.Native.Nat.{ℕ, ◌-◌, ◌<◌}
-use mathlib.Core.Path.{◌≡◌, refl, ◌∙◌}
+use mathlib.Core.Path.{◌≡◌}
 use mathlib.Core.Bool.{◌&&◌}
 use mathlib.Core.List.{[]}
-use native.Mathlib.Omega.{arith}
 use lib.Dec.{eqb}
-use lib.ListN.{get_or, length}
-use borrow.Author.Rules.{rules}
+use lib.ListN.{get_or}
 use Rattle.bits.specs.Masks.{has, mask_of}
-use Rattle.bits.proofs.Laws.Masks.{has_none, has-or}
 use Rattle.policy.specs.Below.{some_below}
 use Rattle.policy.specs.ByTarget.{partition_lacks}
-use Rattle.policy.specs.Whole.{flow_strays, stray_flow}
-use Rattle.policy.proofs.Laws.Below.{some_next}
+use Rattle.policy.specs.Whole.{flow_strays}
 use Rattle.wholerules.specs.Masks.{joined, reach}
 use Rattle.wholerules.specs.Parts.{parts_of}
-use Rattle.wholerules.proofs.Laws.Asked.{joined_more, joined_next, reached_is}
-use Rattle.wholerules.proofs.Laws.Filled.{Filled, fill_none, fill_more, fill_done}
-use Rattle.wholerules.proofs.Laws.Lackers.{own_told}
-use Rattle.wholerules.proofs.Laws.Strays.{sources_told}
+use Rattle.wholerules.proofs.Laws.Filled.{Filled}
 use Rattle.wholerules.proofs.masks.reach_all.Given as goal
 
 abbrev pub invariant-loop-p : goal.invariant-loop-p

@@ -2,8 +2,7 @@
 -- that is reached is allowed; elsewhere the code asks as the definition does.
 use mathlib.Core.Path.{◌≡◌, sym, ◌∙◌}
 use lib.Bits.{bit_and}
-use borrow.Author.Rules.{rules}
-use borrow.Author.Tests.{eq-eqb, eqb-true, not-true}
+use borrow.Author.Tests.{eq-eqb, eqb-true}
 use Rattle.wholerules.proofs.Laws.Asked.{asked_within}
 use Rattle.wholerules.proofs.masks.target_lacks.Goals as goal
 

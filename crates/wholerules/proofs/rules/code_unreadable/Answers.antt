@@ -1,12 +1,8 @@
 -- The loop stops at the first partition that may not read its code; the invariant: none before p is one.
-use Prim.Native.Nat.{◌-◌}
 use mathlib.Core.Bool.{not}
 use mathlib.Core.Path.{ap}
-use mathlib.Core.List.{[]}
-use borrow.Author.Rules.{rules}
 use Rattle.policy.specs.Whole.{code_unreadable}
-use Rattle.policy.proofs.Laws.Loops.{Searched, search_none, search_found, search_more, search_done}
-use Rattle.wholerules.specs.Parts.{parts_of}
+use Rattle.policy.proofs.Laws.Loops.{search_none, search_found, search_more, search_done}
 use Rattle.wholerules.proofs.rules.code_unreadable.Goals as goal
 
 pub loop-p-init : goal.loop-p-init

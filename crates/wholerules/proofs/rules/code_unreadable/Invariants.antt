@@ -2,9 +2,7 @@
 use Prim.Native.Nat.{◌-◌}
 use mathlib.Core.Bool.{not}
 use mathlib.Core.List.{[]}
-use borrow.Author.Rules.{rules}
-use Rattle.policy.specs.Whole.{code_unreadable}
-use Rattle.policy.proofs.Laws.Loops.{Searched, search_none, search_found, search_more, search_done}
+use Rattle.policy.proofs.Laws.Loops.{Searched}
 use Rattle.wholerules.specs.Parts.{parts_of}
 use Rattle.wholerules.proofs.rules.code_unreadable.Given as goal
 

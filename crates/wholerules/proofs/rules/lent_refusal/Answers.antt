@@ -1,5 +1,4 @@
 -- The code asks the four rules in the definition's order.
-use borrow.Author.Rules.{rules}
 use Rattle.policy.specs.Read.{whole_refusal}
 use Rattle.policy.specs.Whole.{incomplete, code_unreadable, flow_missing, stray_flow}
 use Rattle.wholerules.proofs.rules.lent_refusal.Goals as goal

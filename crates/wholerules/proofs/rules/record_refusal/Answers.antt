@@ -1,5 +1,4 @@
 -- A widened mask is the same number.
-use borrow.Author.Rules.{rules}
 use Rattle.wholerules.proofs.rules.record_refusal.Goals as goal
 
 pub returns : goal.returns

@@ -1,5 +1,4 @@
 -- The tab and then the digits.
-use borrow.Author.Rules.{rules}
 use Rattle.writing.proofs.Laws.Written.{written_then}
 use Rattle.writing.proofs.put.put_field.Goals as goal
 

@@ -1,14 +1,13 @@
 -- Each turn writes one number more of the row, and the numbers left are ahead; each has at most five digits.
-use Prim.Native.Nat.{ℕ, ◌+◌, ◌≤◌, ◌<◌, ◌-◌}
-use mathlib.Core.Path.{◌≡◌, refl, ◌∙◌}
+use Prim.Native.Nat.{ℕ, ◌+◌, ◌<◌}
+use mathlib.Core.Path.{refl, ◌∙◌}
 use mathlib.Core.List.{List}
 use native.Mathlib.Numerals.{add-one}
 use native.Mathlib.Omega.{arith}
 use lib.ListN.{length, get_or, drop, length-append, drop_of_length-le}
 use lib.Seq.{drop-cons}
-use Rattle.writing.specs.Row.{field, numbers, Short}
-use borrow.Author.Rules.{rules}
-use Rattle.writing.proofs.Laws.Written.{Ahead, ahead_all, ahead_then, ahead_done, written_then, written_long}
+use Rattle.writing.specs.Row.{field, Short}
+use Rattle.writing.proofs.Laws.Written.{ahead_all, ahead_then, ahead_done, written_then, written_long}
 use Rattle.writing.proofs.put.put_row.Goals as goal
 
 short-then : (row : List ℕ) (i : ℕ) → i < length row → Short (drop i row) → (get_or row i 0 < 100000) × Short (drop (i + 1) row)
@@ -23,9 +22,10 @@ put_field-next-requires c =
     let row = l.args.row.now in
     let there = c.loop-i-test.true in
     let a = rw (drop-cons row l.loop-i.i 0 there) at l.loop-i.invariant.3 in
-    let e = rw length-append at a.place in
-    ((short-then row l.loop-i.i there l.loop-i.invariant.2).0, 
-    omega (arith, e, l.put_word-next.ensures.place, written_long l.put_word-next.ensures, l.requires.1, l.loop-i.invariant.1))
+    let e = rw length-append at a.place in (
+      (short-then row l.loop-i.i there l.loop-i.invariant.2).0,
+      omega (arith, e, l.put_word-next.ensures.place, written_long l.put_word-next.ensures, l.requires.1, l.loop-i.invariant.1),
+    )
 
 pub loop-i-preserved : goal.loop-i-preserved
 loop-i-preserved c =

@@ -1,14 +1,9 @@
 -- Each turn writes one number more of the row, and the numbers left are ahead; each has at most five digits.
-use Prim.Native.Nat.{ℕ, ◌+◌, ◌≤◌, ◌<◌, ◌-◌}
-use mathlib.Core.Path.{◌≡◌, refl, ◌∙◌}
-use mathlib.Core.List.{List}
-use native.Mathlib.Numerals.{add-one}
-use native.Mathlib.Omega.{arith}
-use lib.ListN.{length, get_or, drop, length-append, drop_of_length-le}
-use lib.Seq.{drop-cons}
-use Rattle.writing.specs.Row.{field, numbers, Short}
-use borrow.Author.Rules.{rules}
-use Rattle.writing.proofs.Laws.Written.{Ahead, ahead_all, ahead_then, ahead_done, written_then, written_long}
+use Prim.Native.Nat.{◌≤◌, ◌-◌}
+use mathlib.Core.Path.{◌≡◌}
+use lib.ListN.{length, drop}
+use Rattle.writing.specs.Row.{numbers, Short}
+use Rattle.writing.proofs.Laws.Written.{Ahead}
 use Rattle.writing.proofs.put.put_row.Given as goal
 
 abbrev pub invariant-loop-i : goal.invariant-loop-i

@@ -1,13 +1,11 @@
 -- Each turn writes one byte more of the word, and the rest is ahead.
-use Prim.Native.Nat.{◌≤◌, ◌-◌}
-use mathlib.Core.Path.{◌≡◌, refl, ◌∙◌}
+use mathlib.Core.Path.{refl, ◌∙◌}
 use mathlib.Core.List.{[], ◌∷◌}
 use native.Mathlib.Numerals.{add-one}
 use native.Mathlib.Omega.{arith}
-use borrow.Author.Rules.{rules}
-use lib.ListN.{length, get_or, drop, length-drop, drop_of_length-le}
+use lib.ListN.{get_or, length-drop, drop_of_length-le}
 use lib.Seq.{drop-cons}
-use Rattle.writing.proofs.Laws.Written.{Ahead, written_none, written_long, ahead_all, ahead_then, ahead_done}
+use Rattle.writing.proofs.Laws.Written.{written_none, written_long, ahead_all, ahead_then, ahead_done}
 use Rattle.writing.proofs.put.put_word.Goals as goal
 
 pub loop-i-init : goal.loop-i-init
