@@ -3,25 +3,26 @@ use crate::file::{Seen, show_verdict};
 use crate::program::try_lines;
 use crate::reading::check_policy;
 use script::{field, nth, part, past, same, show, show_number, word};
+use std::io;
 
 // Whether a block is the report on a text.
 fn is_report(text: &[u8], block: &[u8]) -> bool {
     let mut out = [0u8; 640];
-    let n = io::count(checking::report_on(text, &mut out) as isize, &out);
+    let n = checking::report_on(text, &mut out);
     same(&out[..n], block)
 }
 
 // Whether a block is what policyreach writes of a text.
 fn is_reach_report(text: &[u8], block: &[u8]) -> bool {
     let mut out = [0u8; 3424];
-    let n = io::count(reaching::report_on(text, &mut out) as isize, &out);
+    let n = reaching::report_on(text, &mut out);
     same(&out[..n], block)
 }
 
 // Whether a block is what policyreach answers to words about a text.
 fn is_answer(text: &[u8], words: &[u8], block: &[u8]) -> bool {
     let mut out = [0u8; 3424];
-    let n = io::count(reaching::answer_on(text, words, &mut out) as isize, &out);
+    let n = reaching::answer_on(text, words, &mut out);
     same(&out[..n], block)
 }
 
@@ -42,57 +43,70 @@ fn is_reach(text: &[u8], header: &[u8], block: &[u8]) -> bool {
         return false;
     }
     let mut words = [0u8; 34];
-    let n = io::count(reaching::put_words(&mut words, from, to) as isize, &words);
+    let n = reaching::put_words(&mut words, from, to);
     is_answer(text, &words[..n], block)
 }
 
 // Whether a block is what policysheet writes of a text.
 fn is_sheet(text: &[u8], block: &[u8]) -> bool {
     let mut out = [0u8; 204];
-    let n = io::count(sheeting::sheet_on(text, &mut out) as isize, &out);
+    let n = sheeting::sheet_on(text, &mut out);
     same(&out[..n], block)
 }
 
 // A policy block. The last one that is accepted is what the lines after it are about.
-fn on_policy(text: &[u8], header: &[u8], from: usize, to: usize, seen: Seen) -> Seen {
+fn on_policy(
+    rt: &impl Print,
+    text: &[u8],
+    header: &[u8],
+    from: usize,
+    to: usize,
+    seen: Seen,
+) -> io::Result<Seen> {
     let mut next = seen;
-    let verdict = check_policy(header, part(text, from, to));
-    show_verdict(verdict.right, seen.line);
+    let verdict = check_policy(rt, header, part(text, from, to))?;
+    show_verdict(rt, verdict.right, seen.line)?;
     if verdict.accepted {
         next.from = from;
         next.to = to;
     }
-    next
+    Ok(next)
 }
 
 // A block that ends at a place. Where the line that closes it is no bare fence, it is wrong.
-pub(crate) fn on_block(text: &[u8], to: usize, closed: bool, seen: Seen) -> Seen {
+pub(crate) fn on_block(
+    rt: &impl Print,
+    text: &[u8],
+    to: usize,
+    closed: bool,
+    seen: Seen,
+) -> io::Result<Seen> {
     let header = field(text, seen.at, b'\n');
     let from = past(text, seen.at, b'\n');
     let first = word(header, 0);
     let base = part(text, seen.from, seen.to);
-    show(part(first, 3, first.len()));
-    show_number(b" ", seen.block);
-    show(b": ");
+    show(rt, part(first, 3, first.len()))?;
+    show_number(rt, b" ", seen.block)?;
+    show(rt, b": ")?;
     if closed & same(first, b"```policy") {
-        return on_policy(text, header, from, to, seen);
+        return on_policy(rt, text, header, from, to, seen);
     }
     if closed & same(header, b"```report") {
-        show_verdict(is_report(base, part(text, from, to)), seen.line);
-        return seen;
+        show_verdict(rt, is_report(base, part(text, from, to)), seen.line)?;
+        return Ok(seen);
     }
     if closed & same(first, b"```reach") {
-        show_verdict(is_reach(base, header, part(text, from, to)), seen.line);
-        return seen;
+        show_verdict(rt, is_reach(base, header, part(text, from, to)), seen.line)?;
+        return Ok(seen);
     }
     if closed & same(header, b"```sheet") {
-        show_verdict(is_sheet(base, part(text, from, to)), seen.line);
-        return seen;
+        show_verdict(rt, is_sheet(base, part(text, from, to)), seen.line)?;
+        return Ok(seen);
     }
     if closed & (same(header, b"```lines") | same(header, b"```program")) {
-        try_lines(base, part(text, from, to), seen.line);
-        return seen;
+        try_lines(rt, base, part(text, from, to), seen.line)?;
+        return Ok(seen);
     }
-    show_verdict(false, seen.line);
-    seen
+    show_verdict(rt, false, seen.line)?;
+    Ok(seen)
 }

@@ -9,8 +9,10 @@ mod program;
 mod reading;
 mod row;
 
-fn main() {
-    file::check_file(b"POLICY.md");
-    file::check_file(b"PROGRAMMING.md");
-    file::check_file(b"POLICIES.md");
+use std::io;
+
+fn main(rt: HostRuntime) -> io::Result<()> {
+    file::check_file(&rt, b"POLICY.md")?;
+    file::check_file(&rt, b"PROGRAMMING.md")?;
+    file::check_file(&rt, b"POLICIES.md")
 }

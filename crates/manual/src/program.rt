@@ -7,6 +7,7 @@ use policy::{MEMORY, Policy};
 use script::{
     NONE, append, bytes_of, field, nth, number_in, part, past, same, show, show_number, word,
 };
+use std::io;
 
 // What the lines so far have come to: the schedule's place, the number that the last call answered, how many lines were
 // checks, and whether all were right.
@@ -20,7 +21,7 @@ pub struct Stand {
 
 fn checked(stand: Stand, right: bool) -> Stand {
     let mut next = stand;
-    next.checks = std::num::wrapping_add_u32(stand.checks, 1);
+    next.checks = stand.checks.wrapping_add(1);
     next.right = right;
     next
 }
@@ -114,15 +115,15 @@ fn step(base: &[u8], policy: Policy, memory: &mut [u8], line: &[u8], stand: Stan
     check(base, memory, line, stand)
 }
 
-fn show_stand(stand: Stand, line: u32) {
-    show_number(b"checked ", stand.checks);
-    show(b", ");
-    show_verdict(stand.right, line);
+fn show_stand(rt: &impl Print, stand: Stand, line: u32) -> io::Result<()> {
+    show_number(rt, b"checked ", stand.checks)?;
+    show(rt, b", ")?;
+    show_verdict(rt, stand.right, line)
 }
 
 // Obeys the lines of a block, from the line after its fence on, under the policy that the text `base` says, that of
 // zeros where it is refused.
-pub(crate) fn try_lines(base: &[u8], block: &[u8], fence: u32) {
+pub(crate) fn try_lines(rt: &impl Print, base: &[u8], block: &[u8], fence: u32) -> io::Result<()> {
     let reading = reader::read(base);
     let policy = reading.policy;
     let mut memory = [0u8; MEMORY];
@@ -140,10 +141,9 @@ pub(crate) fn try_lines(base: &[u8], block: &[u8], fence: u32) {
     let mut left: u32 = 1000;
     let mut line = fence;
     while 0 < left {
-        line = std::num::wrapping_add_u32(line, 1);
+        line = line.wrapping_add(1);
         if block.len() <= at {
-            show_stand(stand, line);
-            return;
+            return show_stand(rt, stand, line);
         }
         stand = step(
             base,
@@ -153,11 +153,10 @@ pub(crate) fn try_lines(base: &[u8], block: &[u8], fence: u32) {
             stand,
         );
         if !stand.right {
-            show_stand(stand, line);
-            return;
+            return show_stand(rt, stand, line);
         }
         at = past(block, at, b'\n');
         left -= 1;
     }
-    show(b"too long: WRONG\n");
+    show(rt, b"too long: WRONG\n")
 }

@@ -1,6 +1,7 @@
 // A policy text, and the number and line that reading it must answer.
 use policy::Refusal;
 use script::{append, nth, number_in, part, same, show, show_number, word};
+use std::io;
 
 // Whether reading answered what is asked, and whether the text was accepted.
 #[derive(Clone, Copy)]
@@ -23,40 +24,33 @@ fn answer_to(text: &[u8], times: u32, out: &mut [u8]) -> Refusal {
 
 // Compares what reading a text answers, repeated so many times, with the k-th word of the block's first line and the
 // next, which are its last.
-fn compare(header: &[u8], k: u32, text: &[u8], times: u32) -> Verdict {
+fn compare(rt: &impl Print, header: &[u8], k: u32, text: &[u8], times: u32) -> io::Result<Verdict> {
     let mut out = [0u8; 20000];
     let refusal = answer_to(text, times, &mut out);
     let number = reader::number_of(refusal);
     let line = reader::line_number_of(refusal);
     let n = number_in(header, k);
-    let l = number_in(header, std::num::wrapping_add_u32(k, 1));
-    show_number(b"expected ", n);
-    show_number(b" ", l);
-    show_number(b", found ", number);
-    show_number(b" ", line);
-    show(b", ");
-    Verdict {
-        right: (n == number)
-            & (l == line)
-            & (nth(header, std::num::wrapping_add_u32(k, 2), b' ') == header.len()),
+    let l = number_in(header, k.wrapping_add(1));
+    show_number(rt, b"expected ", n)?;
+    show_number(rt, b" ", l)?;
+    show_number(rt, b", found ", number)?;
+    show_number(rt, b" ", line)?;
+    show(rt, b", ")?;
+    Ok(Verdict {
+        right: (n == number) & (l == line) & (nth(header, k.wrapping_add(2), b' ') == header.len()),
         accepted: number == 0,
-    }
+    })
 }
 
 // A policy block. Its first line has the number and the line, after `cut` where the text's last line end is left off,
 // and after `times` and a count where the text is repeated.
-pub(crate) fn check_policy(header: &[u8], text: &[u8]) -> Verdict {
+pub(crate) fn check_policy(rt: &impl Print, header: &[u8], text: &[u8]) -> io::Result<Verdict> {
     let how = word(header, 1);
     if same(how, b"cut") {
-        return compare(
-            header,
-            2,
-            part(text, 0, std::num::wrapping_sub_usize(text.len(), 1)),
-            1,
-        );
+        return compare(rt, header, 2, part(text, 0, text.len().wrapping_sub(1)), 1);
     }
     if same(how, b"times") {
-        return compare(header, 3, text, number_in(header, 2));
+        return compare(rt, header, 3, text, number_in(header, 2));
     }
-    compare(header, 1, text, 1)
+    compare(rt, header, 1, text, 1)
 }

@@ -2,12 +2,13 @@
 // that a text is too long.
 #![tactic(auto)]
 
-use libc::{STDIN_FILENO, STDOUT_FILENO};
+use input::read_full;
+use std::io;
 
-fn main() {
+fn main(rt: HostRuntime) -> io::Result<()> {
     let mut text = [0u8; 16385];
-    let n = io::read_full(STDIN_FILENO, &mut text);
+    let n = read_full(&mut rt.reader(), &mut text)?;
     let mut out = [0u8; 640];
     let m = checking::report_on(&text[..n], &mut out);
-    io::write_all(STDOUT_FILENO, &out[..m]);
+    rt.write_all(&out[..m])
 }

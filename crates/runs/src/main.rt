@@ -15,40 +15,42 @@ use calls::Placed;
 use machine::Place;
 use octets::byte_at;
 use policy::Policy;
-use script::{FILE, append, bytes_of, field, load, number_in, part, past, show, show_number, word};
+use script::{append, bytes_of, field, load, number_in, part, past, room, show, show_number, word};
+use std::io;
 
 // Names the call of a line with the numbers that it takes; any other step is not shown.
-fn show_call(name: &[u8], line: &[u8], call: u8) {
+fn show_call(rt: &impl Print, name: &[u8], line: &[u8], call: u8) -> io::Result<()> {
     let both = (call == b'p') | (call == b'l') | (call == b'q');
     let one = both | (call == b'r');
     let none = (call == b's') | (call == b'm') | (call == b't') | (call == b'e');
     if one | none {
-        show(name);
-        show(b"\t");
-        show(word(line, 0));
+        show(rt, name)?;
+        show(rt, b"\t")?;
+        show(rt, word(line, 0))?;
     }
     if one {
-        show_number(b" ", number_in(line, 1));
+        show_number(rt, b" ", number_in(line, 1))?;
     }
     if both {
-        show_number(b" ", number_in(line, 2));
+        show_number(rt, b" ", number_in(line, 2))?;
     }
+    Ok(())
 }
 
-fn show_answer(n: u32) {
-    show_number(b"\t", n);
-    show(b"\n");
+fn show_answer(rt: &impl Print, n: u32) -> io::Result<()> {
+    show_number(rt, b"\t", n)?;
+    show(rt, b"\n")
 }
 
-fn answered(placed: Placed) -> Place {
+fn answered(rt: &impl Print, placed: Placed) -> io::Result<Place> {
     let outcome = placed.outcome;
     let place = placed.place;
-    show_number(b"\t", kernel::outcome_number(outcome));
-    show_number(b"\t", place.slot);
-    show_number(b" ", place.used);
-    show_number(b" ", place.count);
-    show(b"\n");
-    place
+    show_number(rt, b"\t", kernel::outcome_number(outcome))?;
+    show_number(rt, b"\t", place.slot)?;
+    show_number(rt, b" ", place.used)?;
+    show_number(rt, b" ", place.count)?;
+    show(rt, b"\n")?;
+    Ok(place)
 }
 
 // Puts the bytes of a line into memory.
@@ -59,66 +61,72 @@ fn write(memory: &mut [u8], at: u32, line: &[u8]) {
 }
 
 // What a step does, and the place after it. A line of bytes is no step: it belongs to the one before.
-fn act(memory: &mut [u8], policy: Policy, place: Place, line: &[u8], next: &[u8]) -> Place {
+fn act(
+    rt: &impl Print,
+    memory: &mut [u8],
+    policy: Policy,
+    place: Place,
+    line: &[u8],
+    next: &[u8],
+) -> io::Result<Place> {
     let x = number_in(line, 1);
     let y = number_in(line, 2);
     match byte_at(line, 0) {
-        b's' => answered(kernel::start(policy, memory)),
-        b'r' => answered(kernel::run(policy, memory, place, x)),
-        b'a' => Place {
-            slot: x,
-            used: y,
-            count: number_in(line, 3),
-        },
-        b'p' => {
-            show_answer(kernel::outcome_number(kernel::pend(policy, memory, x, y)));
-            place
+        b's' => return answered(rt, kernel::start(policy, memory)),
+        b'r' => return answered(rt, kernel::run(policy, memory, place, x)),
+        b'a' => {
+            return Ok(Place {
+                slot: x,
+                used: y,
+                count: number_in(line, 3),
+            });
         }
-        b'w' => {
-            write(memory, x, next);
-            place
-        }
-        b'f' => {
-            fill(memory, x);
-            place
-        }
-        b'l' => {
-            look(memory, x, y);
-            place
-        }
-        b'e' => {
-            show_answer(number_of(memory));
-            place
-        }
-        _ => place,
+        b'p' => show_answer(
+            rt,
+            kernel::outcome_number(kernel::pend(policy, memory, x, y)),
+        )?,
+        b'w' => write(memory, x, next),
+        b'f' => fill(memory, x),
+        b'l' => look(rt, memory, x, y)?,
+        b'e' => show_answer(rt, number_of(memory))?,
+        _ => (),
     }
+    Ok(place)
 }
 
 // A step: what is asked of the record, and what is done.
 fn step(
+    rt: &impl Print,
     name: &[u8],
     memory: &mut [u8],
     policy: Policy,
     place: Place,
     line: &[u8],
     next: &[u8],
-) -> Place {
+) -> io::Result<Place> {
     let call = byte_at(line, 0);
-    show_call(name, line, call);
+    show_call(rt, name, line, call)?;
     if call == b'm' {
-        show_masks(policy);
+        show_masks(rt, policy)?;
     }
     if call == b't' {
-        show_sheet(policy);
+        show_sheet(rt, policy)?;
     }
     if call == b'q' {
-        show_reach(policy, number_in(line, 1), number_in(line, 2));
+        show_reach(rt, policy, number_in(line, 1), number_in(line, 2))?;
     }
-    act(memory, policy, place, line, next)
+    act(rt, memory, policy, place, line, next)
 }
 
 // The steps up to the one that ends the scenario, and where the next one begins.
-fn steps(file: &[u8], from: usize, name: &[u8], memory: &mut [u8], read: Policy) -> usize {
+fn steps(
+    rt: &impl Print,
+    file: &[u8],
+    from: usize,
+    name: &[u8],
+    memory: &mut [u8],
+    read: Policy,
+) -> io::Result<usize> {
     let mut policy = read;
     let mut place = Place {
         slot: 0,
@@ -131,45 +139,47 @@ fn steps(file: &[u8], from: usize, name: &[u8], memory: &mut [u8], read: Policy)
         let line = field(file, at, b'\n');
         at = past(file, at, b'\n');
         policy = changed(policy, line);
-        place = step(name, memory, policy, place, line, field(file, at, b'\n'));
+        let next = field(file, at, b'\n');
+        place = step(rt, name, memory, policy, place, line, next)?;
         if byte_at(line, 0) == b'e' {
-            return at;
+            return Ok(at);
         }
         left -= 1;
     }
-    at
+    Ok(at)
 }
 
 // Plays the scenario at a place, in a memory of the length that it asks for, and answers where the next begins.
-fn play(file: &[u8], at: usize, memory: &mut [u8]) -> usize {
+fn play(rt: &impl Print, file: &[u8], at: usize, memory: &mut [u8]) -> io::Result<usize> {
     let header = field(file, at, b'\n');
     let name = word(header, 0);
-    let size = io::count(number_in(header, 1) as isize, memory);
+    let size = (number_in(header, 1) as usize).min(memory.len());
     let from = past(file, at, b'\n');
     let to = from + number_in(header, 2) as usize;
     let reading = reader::read(part(file, from, to));
     let refusal = reading.refusal;
-    show(name);
-    show_number(b"\tpolicy\t", reader::number_of(refusal));
-    show(b"\n");
-    steps(file, to, name, &mut memory[..size], reading.policy)
+    show(rt, name)?;
+    show_number(rt, b"\tpolicy\t", reader::number_of(refusal))?;
+    show(rt, b"\n")?;
+    steps(rt, file, to, name, &mut memory[..size], reading.policy)
 }
 
-fn play_all(file: &[u8]) {
+fn play_all(rt: &impl Print, file: &[u8]) -> io::Result<()> {
     let mut at = 0;
     let mut left: u32 = 1000;
     while 0 < left {
         if file.len() <= at {
-            return;
+            return Ok(());
         }
         let mut memory = [0u8; 16400];
-        at = play(file, at, &mut memory);
+        at = play(rt, file, at, &mut memory)?;
         left -= 1;
     }
+    Ok(())
 }
 
-fn main() {
-    let mut space = [0u8; FILE];
-    let n = load(b"scenarios", &mut space);
-    play_all(&space[..n]);
+fn main(rt: HostRuntime) -> io::Result<()> {
+    let mut space = room();
+    let n = load(&rt, b"scenarios", &mut space)?;
+    play_all(&rt, &space[..n])
 }

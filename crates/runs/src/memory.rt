@@ -1,8 +1,7 @@
 // Memory filled, shown, and as one number.
-ghost use Rattle.std.specs.Prelude.{◌<◌};
-
 use octets::byte_at;
 use script::{show, show_number};
+use std::io;
 
 // No byte becomes 0.
 pub(crate) fn fill(memory: &mut [u8], k: u32) {
@@ -14,18 +13,18 @@ pub(crate) fn fill(memory: &mut [u8], k: u32) {
 }
 
 // A line of the bytes from a place on.
-pub(crate) fn look(memory: &[u8], at: u32, count: u32) {
+pub(crate) fn look(rt: &impl Print, memory: &[u8], at: u32, count: u32) -> io::Result<()> {
     let mut i: u32 = 0;
     while i < count {
         let b = byte_at(memory, (at as usize) + (i as usize));
         if i == 0 {
-            show_number(b"\t", b as u32);
+            show_number(rt, b"\t", b as u32)?;
         } else {
-            show_number(b" ", b as u32);
+            show_number(rt, b" ", b as u32)?;
         }
         i += 1;
     }
-    show(b"\n");
+    show(rt, b"\n")
 }
 
 // All of memory as one number of base 256, modulo a prime, so that a byte that differs shows.

@@ -1,30 +1,31 @@
 // Who can reach whom: the report's masks, and the answer to one question.
 use policy::Policy;
 use script::{show, show_number};
+use std::io;
 
 // The number, and all masks of the report.
-pub(crate) fn show_masks(policy: Policy) {
+pub(crate) fn show_masks(rt: &impl Print, policy: Policy) -> io::Result<()> {
     let report = reach::reach(policy);
     let asked = report.asked;
     let rows = report.rows;
-    show_number(b"\t", reach::asked_number(asked));
-    show_number(b"\t", rows[0]);
+    show_number(rt, b"\t", reach::asked_number(asked))?;
+    show_number(rt, b"\t", rows[0])?;
     let mut t = 1;
     while t < 32 {
-        show_number(b" ", rows[t]);
+        show_number(rt, b" ", rows[t])?;
         t += 1;
     }
-    show(b"\n");
+    show(rt, b"\n")
 }
 
 // The number, and 1 for yes.
-pub(crate) fn show_reach(policy: Policy, from: u32, to: u32) {
+pub(crate) fn show_reach(rt: &impl Print, policy: Policy, from: u32, to: u32) -> io::Result<()> {
     let answer = reach::can_reach(policy, from, to);
     let asked = answer.asked;
-    show_number(b"\t", reach::asked_number(asked));
+    show_number(rt, b"\t", reach::asked_number(asked))?;
     if answer.yes {
-        show(b"\t1\n");
+        show(rt, b"\t1\n")
     } else {
-        show(b"\t0\n");
+        show(rt, b"\t0\n")
     }
 }

@@ -1,23 +1,25 @@
 // The schedule sheet.
 use policy::Policy;
 use script::{show, show_number};
+use std::io;
 
 // Eight numbers, after what parts them from the field before.
-fn show_row(row: &[u32; 8]) {
-    show_number(b"\t", row[0]);
+fn show_row(rt: &impl Print, row: &[u32; 8]) -> io::Result<()> {
+    show_number(rt, b"\t", row[0])?;
     let mut p = 1;
     while p < 8 {
-        show_number(b" ", row[p]);
+        show_number(rt, b" ", row[p])?;
         p += 1;
     }
+    Ok(())
 }
 
 // The number, the ticks of each partition, and the longest silence of each.
-pub(crate) fn show_sheet(policy: Policy) {
+pub(crate) fn show_sheet(rt: &impl Print, policy: Policy) -> io::Result<()> {
     let sheet = sheet::sheet_of(policy);
     let asked = sheet.asked;
-    show_number(b"\t", reach::asked_number(asked));
-    show_row(&sheet.ticks);
-    show_row(&sheet.silence);
-    show(b"\n");
+    show_number(rt, b"\t", reach::asked_number(asked))?;
+    show_row(rt, &sheet.ticks)?;
+    show_row(rt, &sheet.silence)?;
+    show(rt, b"\n")
 }

@@ -7,7 +7,7 @@ mod output;
 mod pieces;
 
 pub use numbers::{NONE, bytes_of, number_in};
-pub use output::{load, show, show_number};
+pub use output::{load, room, show, show_number};
 pub use pieces::{append, field, find, nth, part, past, same, word};
 
 // More bytes than the longest file has.

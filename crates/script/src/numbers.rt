@@ -1,6 +1,6 @@
 // Numbers of a line, and bytes.
 ghost use Rattle.std.specs.Prelude.{◌≤◌};
-ghost use Rattle.io.specs.Counts.{IsPrefixLen};
+ghost use Rattle.input.specs.Counts.{IsPrefixLen};
 
 use crate::pieces::{field, find, word};
 

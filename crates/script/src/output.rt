@@ -1,26 +1,41 @@
 // A file read whole, and what is written to standard output.
-ghost use Rattle.io.specs.Counts.{IsPrefixLen};
+ghost use Rattle.std.specs.Prelude.{◌≡◌, length, IfOk};
+ghost use Rattle.input.specs.Counts.{IsPrefixLen};
+ghost use Rattle.script.specs.declared.TheConstants.{FILE};
 
-use libc::STDOUT_FILENO;
+use crate::FILE;
+use std::rt::Files;
+use std::{fs, io, str};
 
-pub fn show(text: &[u8]) {
-    io::write_all(STDOUT_FILENO, text);
+pub fn show(rt: &impl Print, text: &[u8]) -> io::Result<()> {
+    rt.write_all(text)
 }
 
 // A number, after what parts it from the field before.
-pub fn show_number(parting: &[u8], n: u32) {
-    show(parting);
-    io::print_decimal(STDOUT_FILENO, n as u64);
+pub fn show_number(rt: &impl Print, parting: &[u8], n: u32) -> io::Result<()> {
+    show(rt, parting)?;
+    rt.print(n)
 }
 
-// Reads a file, and says so where there may be more of it than there is room for.
-pub fn load(name: &[u8], out: &mut [u8]) -> usize
-    ensures { IsPrefixLen result out.new }
+// Room for a file, all zeros. The clause gives the length alone, which lending the array as a slice needs.
+pub fn room() -> [u8; FILE]
+    ensures { length result ≡ FILE }
 {
-    let fd = os::open_read(name);
-    let n = io::read_full(fd, out);
+    [0; FILE]
+}
+
+// Reads a file, and says so where there may be more of it than there is room for. A file has its name in text: any other
+// name is an error, as one that names no file is.
+pub fn load(rt: &(impl Files + Print), name: &[u8], out: &mut [u8]) -> io::Result<usize>
+    ensures { IfOk result (λ n. IsPrefixLen n out.new) }
+{
+    let Ok(path) = str::from_utf8(name) else {
+        return Err(io::Error::from(io::ErrorKind::InvalidFilename));
+    };
+    let mut file = fs::open(rt, path)?;
+    let n = input::read_full(&mut file, out)?;
     if n == out.len() {
-        show(b"too long: WRONG\n");
+        show(rt, b"too long: WRONG\n")?;
     }
-    n
+    Ok(n)
 }

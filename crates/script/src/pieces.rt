@@ -1,6 +1,6 @@
 // Parts of a text: lines and words of it, compared and copied.
 ghost use Rattle.std.specs.Prelude.{◌≤◌, length};
-ghost use Rattle.io.specs.Counts.{IsPrefixLen};
+ghost use Rattle.input.specs.Counts.{IsPrefixLen};
 
 // The first place at or after `from` where a byte b stands, or another byte where `is` is false; the end where there is
 // none.

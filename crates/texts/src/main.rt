@@ -2,36 +2,38 @@
 // A case is a name filled up with spaces to 40 bytes, a length in 7 digits, a line end, and then the text.
 #![tactic(auto)]
 
-use script::{FILE, field, load, number_in, part, past, show, show_number, word};
+use script::{field, load, number_in, part, past, room, show, show_number, word};
+use std::io;
 
 // Reads the case at a place, and answers where the next one begins.
-fn read_case(file: &[u8], at: usize) -> usize {
+fn read_case(rt: &impl Print, file: &[u8], at: usize) -> io::Result<usize> {
     let header = field(file, at, b'\n');
     let from = past(file, at, b'\n');
     let to = from + number_in(header, 1) as usize;
     let reading = reader::read(part(file, from, to));
     let refusal = reading.refusal;
-    show(word(header, 0));
-    show_number(b"\t", reader::number_of(refusal));
-    show_number(b"\t", reader::line_number_of(refusal));
-    show(b"\n");
-    to
+    show(rt, word(header, 0))?;
+    show_number(rt, b"\t", reader::number_of(refusal))?;
+    show_number(rt, b"\t", reader::line_number_of(refusal))?;
+    show(rt, b"\n")?;
+    Ok(to)
 }
 
-fn read_cases(file: &[u8]) {
+fn read_cases(rt: &impl Print, file: &[u8]) -> io::Result<()> {
     let mut at = 0;
     let mut left: u32 = 1000;
     while 0 < left {
         if file.len() <= at {
-            return;
+            return Ok(());
         }
-        at = read_case(file, at);
+        at = read_case(rt, file, at)?;
         left -= 1;
     }
+    Ok(())
 }
 
-fn main() {
-    let mut space = [0u8; FILE];
-    let n = load(b"cases", &mut space);
-    read_cases(&space[..n]);
+fn main(rt: HostRuntime) -> io::Result<()> {
+    let mut space = room();
+    let n = load(&rt, b"cases", &mut space)?;
+    read_cases(&rt, &space[..n])
 }
