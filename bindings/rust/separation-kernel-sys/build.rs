@@ -38,7 +38,7 @@ fn folder() -> Result<PathBuf, String> {
     match archive.is_file() {
         true => Ok(folder),
         false => Err(format!(
-            "there is no {}\nRun `rt staticlib boundary` in the repository: it writes target/staticlib/libboundary.a.\n\
+            "there is no {}\nRun `tools/build boundary` in the repository: it writes target/staticlib/libboundary.a.\n\
              An archive in another folder is found by the variable {VARIABLE}, which {}.",
             archive.display(),
             if given.is_some() { "is set" } else { "is not set" }

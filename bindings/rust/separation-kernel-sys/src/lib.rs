@@ -3,7 +3,7 @@
 //!
 //! The feature `link`, on unless switched off, declares the functions and links the archive; without it there are the types and constants alone.
 //! The archive is looked for in the folder that the environment variable `SEPARATION_KERNEL_LIB_DIR` names, else in the repository's `target/staticlib`,
-//! where `rt staticlib boundary` writes it.
+//! where `tools/build boundary` writes it.
 //!
 //! # Safety
 //!

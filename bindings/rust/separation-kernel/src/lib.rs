@@ -43,7 +43,7 @@
 //!
 //! # The archive
 //!
-//! `rt staticlib boundary` writes `target/staticlib/libboundary.a`, which is linked. To link one in another folder, name the folder in the environment
+//! `tools/build boundary` writes `target/staticlib/libboundary.a`, which is linked. To link one in another folder, name the folder in the environment
 //! variable `SEPARATION_KERNEL_LIB_DIR`. [`check_version`] compares its version with this crate's.
 
 #![no_std]
