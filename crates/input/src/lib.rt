@@ -1,7 +1,7 @@
 // Input read into a buffer that the caller has.
 #![tactic(auto)]
 
-ghost use Rattle.std.specs.Prelude.{◌<◌, length, take, IfOk};
+ghost use Rattle.std.specs.Prelude.{◌≡◌, ◌<◌, length, take, IfOk, OnErr};
 ghost use Rattle.std.specs.Io.KnownBytes.{Consumes, IsAtEnd};
 ghost use Rattle.input.specs.Counts.{IsPrefixLen};
 
@@ -13,6 +13,9 @@ pub fn read_full<R: Read>(reader: &mut R, out: &mut [u8]) -> io::Result<usize>
     ensures in_bounds { IfOk result (λ n. IsPrefixLen n out.new) }
     ensures bytes { IfOk result (λ n. Consumes (R.remaining reader.old) (R.remaining reader.new) (take n out.new)) }
     ensures end { IfOk result (λ n. n < length out.new → IsAtEnd (R.remaining reader.new)) }
+
+    // The error is the reader's. The buffer keeps its length, and may hold some of what was read.
+    ensures left { OnErr result (length out.new ≡ length out.old) }
 {
     let mut done = 0;
     while done < out.len() {
