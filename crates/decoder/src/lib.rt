@@ -5,7 +5,7 @@ ghost use Rattle.std.specs.Prelude.{◌≡◌, ◌+◌, ◌*◌, get_or};
 ghost use Rattle.machine.specs.Decode.{last_opcode, register_masks, operands_fit, instruction_of, decode_of, fetched};
 
 use machine::{Decoded, Instr};
-use octets::{byte_at, wide};
+use octets::entry_or;
 
 // An opcode past the table is no instruction, whatever its operands.
 fn instruction(op: u8, a: u8, b: u8, c: u8) -> Decoded
@@ -100,11 +100,11 @@ pub fn decode(op: u8, a: u8, b: u8, c: u8) -> Decoded
 pub fn fetch(code: &[u8], at: u16) -> Decoded
     ensures { result ≡ fetched last_opcode code.now at }
 {
-    let i = wide(at);
+    let i = usize::from(at);
     decode(
-        byte_at(code, i),
-        byte_at(code, i + 1),
-        byte_at(code, i + 2),
-        byte_at(code, i + 3),
+        entry_or(code, i, 0),
+        entry_or(code, i + 1, 0),
+        entry_or(code, i + 2, 0),
+        entry_or(code, i + 3, 0),
     )
 }

@@ -6,7 +6,7 @@ ghost use Rattle.calls.specs.Pend.{pend_outcome, after_pend};
 use crate::save::save_from;
 use calls::Outcome;
 use machine::LAST_LINE;
-use octets::{byte_at, put};
+use octets::{entry_or, put};
 use policy::{MEMORY, Policy};
 use savearea::layout::PENDED;
 use validate::passes_test;
@@ -32,7 +32,7 @@ pub fn pend(policy: Policy, memory: &mut [u8], partition: u32, line: u32) -> Out
         return Outcome::NoLine;
     }
     let at = save_from(&base, &save, partition as usize) as usize + PENDED;
-    let lines = byte_at(memory, at);
+    let lines = entry_or(memory, at, 0);
     put(memory, at, lines | (1u8 << line));
     Outcome::Done
 }

@@ -11,7 +11,6 @@ ghost use Rattle.calls.specs.Run.{state_of, after_ticks, run_answer, after_run};
 use crate::stretch::stretch;
 use calls::{Outcome, Placed};
 use machine::{MOST_TICKS_OF_RUN, Place};
-use octets::wide;
 use parts::is_able;
 use policy::{MEMORY, Policy};
 use schedule::{is_place, lesser, next_turn, place_with, turn_at};
@@ -31,7 +30,7 @@ fn run_ticks(policy: Policy, memory: &mut [u8], place: Place, n: u32) -> Place
         let owner = policy.owner[slot as usize] as usize;
         let save = policy.save[owner];
         // Asked before all else is looked up: an idle partition needs none of it.
-        if is_able(memory, wide(policy.base[save as usize])) {
+        if is_able(memory, usize::from(policy.base[save as usize])) {
             let code = policy.code[owner];
             let reads = policy.reads[owner] as u64;
             let writes = policy.writes[owner] as u64;

@@ -13,7 +13,6 @@ ghost use Rattle.tick.specs.Seat.{seat_of, Inside, Seated};
 ghost use Rattle.kernel.specs.Stretch.{ticked_by, ticked_for};
 
 use machine::Fault;
-use octets::wide;
 use parts::{fault, get_counter, interrupt, is_able, is_ready, takes_interrupt};
 use savearea::ASKING;
 use tick::step;
@@ -151,9 +150,9 @@ pub(crate) fn stretch<'a>(
         ≡ ticked_by (seat_of base.now size.now reads writes segments) code save count n
         memory.old }
 {
-    let from = wide(base[save as usize]);
-    let start = wide(base[code as usize]);
-    let room = wide(size[code as usize]);
+    let from = usize::from(base[save as usize]);
+    let start = usize::from(base[code as usize]);
+    let room = usize::from(size[code as usize]);
     let end = std::num::wrapping_add_u32(count, n);
     let mut left: u32 = n;
     while 0 < left {

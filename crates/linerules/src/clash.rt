@@ -6,7 +6,7 @@ ghost use Rattle.policy.specs.Limits.{single};
 ghost use Rattle.linerules.specs.Parts.{Barred, EndedBy, end_of, placed, right_on};
 
 use bits::has_bit;
-use octets::{byte_at, half_at};
+use octets::entry_or;
 use policy::SAVE_SIZE;
 use text::Line;
 
@@ -25,8 +25,8 @@ pub(crate) fn overlaps_earlier<'a>(
     let end = base + size;
     let mut i: u8 = 0;
     while i < segments {
-        let from = half_at(bases, i as usize) as u32;
-        let bytes = half_at(sizes, i as usize) as u32;
+        let from = entry_or(bases, i as usize, 0) as u32;
+        let bytes = entry_or(sizes, i as usize, 0) as u32;
         if (base < from + bytes) & (from < end) {
             return true;
         }
@@ -47,8 +47,8 @@ fn shares_earlier<'a>(
 {
     let mut i: u8 = 0;
     while i < partitions {
-        let c = byte_at(codes, i as usize) as u32;
-        let s = byte_at(saves, i as usize) as u32;
+        let c = entry_or(codes, i as usize, 0) as u32;
+        let s = entry_or(saves, i as usize, 0) as u32;
         if (save == s) | (save == c) | (code == s) {
             return true;
         }
@@ -70,7 +70,7 @@ pub(crate) fn partition_clashes<'a>(
         (placed 0 partitions [] sizes.now codes.now saves.now)
         code save }
 {
-    let bytes = half_at(sizes, save as usize) as usize;
+    let bytes = entry_or(sizes, save as usize, 0) as usize;
     let shared = shares_earlier(partitions, codes, saves, code, save);
     (bytes != SAVE_SIZE) | (code == save) | shared
 }

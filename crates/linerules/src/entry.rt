@@ -6,7 +6,7 @@ ghost use Rattle.linerules.specs.Parts.{EndedBy, placed};
 
 use crate::clash::{overlaps_earlier, partition_clashes};
 use crate::range::{partition_outside, segment_outside};
-use octets::{byte_at, half_at};
+use octets::entry_or;
 
 // The segments before have ended at `end`. One that begins there or later overlaps none of them, so segments in the order
 // of their bases need one test each.
@@ -14,8 +14,8 @@ pub fn segment_passes<'a>(bases: &'a [u16], sizes: &'a [u16], i: u8, end: u32) -
     requires { EndedBy bases.now sizes.now i end }
     ensures { result ≡ good_segment single (placed 0 0 bases.now sizes.now [] []) i }
 {
-    let base = half_at(bases, i as usize) as u32;
-    let size = half_at(sizes, i as usize) as u32;
+    let base = entry_or(bases, i as usize, 0) as u32;
+    let size = entry_or(sizes, i as usize, 0) as u32;
     // Left early, so that the loop below is known to stay inside the arrays, and many entries are tested at once.
     if segment_outside(i, base, size) {
         return false;
@@ -38,8 +38,8 @@ pub fn partition_passes<'a>(
         (placed segments 0 [] sizes.now codes.now saves.now)
         i }
 {
-    let code = byte_at(codes, i as usize) as u32;
-    let save = byte_at(saves, i as usize) as u32;
+    let code = entry_or(codes, i as usize, 0) as u32;
+    let save = entry_or(saves, i as usize, 0) as u32;
     if partition_outside(segments, i, code, save) {
         return false;
     }

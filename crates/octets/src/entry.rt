@@ -1,18 +1,11 @@
 // One entry of a slice, and all of them.
 ghost use Rattle.std.specs.Prelude.{◌≡◌, get_or, length, replicate, set};
 
-// The byte at a place, and 0 past the end.
-pub fn byte_at(s: &[u8], at: usize) -> u8
-    ensures { result ≡ get_or s.now at 0 }
+// The entry at a place, and `none` past the end.
+pub fn entry_or<T: Copy>(s: &[T], at: usize, none: T) -> T
+    ensures { result ≡ get_or s.now at none }
 {
-    if at < s.len() { s[at] } else { 0 }
-}
-
-// The half at a place, and 0 past the end.
-pub fn half_at(s: &[u16], at: usize) -> u16
-    ensures { result ≡ get_or s.now at 0 }
-{
-    if at < s.len() { s[at] } else { 0 }
+    if at < s.len() { s[at] } else { none }
 }
 
 // The byte at a place becomes b; past the end nothing changes.
@@ -28,16 +21,5 @@ pub fn put(s: &mut [u8], at: usize, b: u8)
 pub fn clear(s: &mut [u8])
     ensures { s.new ≡ replicate (length s.old) 0 }
 {
-    let mut i = 0;
-    while i < s.len() {
-        s[i] = 0;
-        i += 1;
-    }
-}
-
-// An entry read and widened asks for its index alone; a cast at the place asks too that the entry fits.
-pub fn wide(x: u16) -> usize
-    ensures { result ≡ x }
-{
-    x as usize
+    s.fill(0);
 }

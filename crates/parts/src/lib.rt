@@ -14,7 +14,7 @@ ghost use Rattle.savearea.specs.Next.{Hands};
 ghost use Rattle.parts.specs.Parts.{saved_at, with_saved, is_beside, loaded_from, stored_to};
 
 use machine::{Decoded, Fault};
-use octets::{byte_at, get_half, get_word_in, low, put, put_word_at, word_at};
+use octets::{entry_or, get_half, get_word_in, low, put, put_word_at, word_at};
 use policy::SAVE_SIZE;
 use savearea::asking;
 use savearea::layout::{COUNTER, READY, STATE};
@@ -49,7 +49,7 @@ pub fn is_ready(memory: &[u8], from: usize) -> bool
     ensures { result ≡ is_ready (saved_at memory.now from) }
 {
     let to = from + SAVE_SIZE;
-    byte_at(&memory[from..to], STATE) == READY
+    entry_or(&memory[from..to], STATE, 0) == READY
 }
 
 pub fn takes_interrupt(memory: &[u8], from: usize) -> bool
@@ -130,7 +130,7 @@ pub fn load_from(
         return asking(pc);
     }
     let end = start + size;
-    let x = byte_at(&memory[start..end], at) as u32;
+    let x = entry_or(&memory[start..end], at, 0) as u32;
     let to = from + SAVE_SIZE;
     savearea::put_result(&mut memory[from..to], a, x, pc) as u32
 }

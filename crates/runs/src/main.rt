@@ -13,7 +13,7 @@ use crate::record::changed;
 use crate::ticks::show_sheet;
 use calls::Placed;
 use machine::Place;
-use octets::byte_at;
+use octets::entry_or;
 use policy::Policy;
 use script::{append, bytes_of, field, load, number_in, part, past, room, show, show_number, word};
 use std::io;
@@ -71,7 +71,7 @@ fn act(
 ) -> io::Result<Place> {
     let x = number_in(line, 1);
     let y = number_in(line, 2);
-    match byte_at(line, 0) {
+    match entry_or(line, 0, 0) {
         b's' => return answered(rt, kernel::start(policy, memory)),
         b'r' => return answered(rt, kernel::run(policy, memory, place, x)),
         b'a' => {
@@ -104,7 +104,7 @@ fn step(
     line: &[u8],
     next: &[u8],
 ) -> io::Result<Place> {
-    let call = byte_at(line, 0);
+    let call = entry_or(line, 0, 0);
     show_call(rt, name, line, call)?;
     if call == b'm' {
         show_masks(rt, policy)?;
@@ -141,7 +141,7 @@ fn steps(
         policy = changed(policy, line);
         let next = field(file, at, b'\n');
         place = step(rt, name, memory, policy, place, line, next)?;
-        if byte_at(line, 0) == b'e' {
+        if entry_or(line, 0, 0) == b'e' {
             return Ok(at);
         }
         left -= 1;

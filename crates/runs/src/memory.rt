@@ -1,5 +1,5 @@
 // Memory filled, shown, and as one number.
-use octets::byte_at;
+use octets::entry_or;
 use script::{show, show_number};
 use std::io;
 
@@ -16,7 +16,7 @@ pub(crate) fn fill(memory: &mut [u8], k: u32) {
 pub(crate) fn look(rt: &impl Print, memory: &[u8], at: u32, count: u32) -> io::Result<()> {
     let mut i: u32 = 0;
     while i < count {
-        let b = byte_at(memory, (at as usize) + (i as usize));
+        let b = entry_or(memory, (at as usize) + (i as usize), 0);
         if i == 0 {
             show_number(rt, b"\t", b as u32)?;
         } else {

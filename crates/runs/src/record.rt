@@ -1,12 +1,12 @@
 // The policy record of a scenario: that of a text, with entries changed.
-use octets::byte_at;
+use octets::entry_or;
 use policy::Policy;
 use script::number_in;
 
 // The record after a step: `change` names a field, an entry of it and the value.
 pub(crate) fn changed(policy: Policy, line: &[u8]) -> Policy {
     let mut p = policy;
-    if byte_at(line, 0) != b'c' {
+    if entry_or(line, 0, 0) != b'c' {
         return p;
     }
     let i = number_in(line, 2) as usize;

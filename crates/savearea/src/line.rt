@@ -8,21 +8,21 @@ use crate::layout::{
     COUNTER, ENABLED, HANDLER, IN_HANDLER, LINE, PENDED, READY, RETURN, STATE, WAITING,
 };
 use crate::step::in_handler;
-use octets::{byte_at, get_half, put, put_half, put_word};
+use octets::{entry_or, get_half, put, put_half, put_word};
 
 // With a line that is pended and enabled, outside a handler, ready or waiting. The lines come first: most ticks have
 // none, and are asked no more; those in a handler are not asked for the state.
 pub fn takes_interrupt(s: &[u8]) -> bool
     ensures { result ≡ takes_interrupt s.now }
 {
-    let lines = byte_at(s, PENDED) & byte_at(s, ENABLED);
+    let lines = entry_or(s, PENDED, 0) & entry_or(s, ENABLED, 0);
     if lines == 0 {
         return false;
     }
     if in_handler(s) {
         return false;
     }
-    let state = byte_at(s, STATE);
+    let state = entry_or(s, STATE, 0);
     (state == READY) | (state == WAITING)
 }
 
@@ -53,7 +53,7 @@ pub fn interrupt(s: &mut [u8], pc: u16)
     ensures { s.new ≡ interrupted s.old }
 {
     let handler = get_half(s, HANDLER) as u32;
-    let taken = take_line(byte_at(s, PENDED), byte_at(s, ENABLED));
+    let taken = take_line(entry_or(s, PENDED, 0), entry_or(s, ENABLED, 0));
     put(s, PENDED, taken.pended);
     put_word(s, LINE, taken.line);
     put_half(s, RETURN, pc as u32);

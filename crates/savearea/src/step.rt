@@ -7,12 +7,12 @@ ghost use Rattle.machine.specs.Local.{advanced, resulted};
 
 use crate::layout::{COUNTER, FAULT, FAULTED, IN_HANDLER, STATE};
 use machine::Fault;
-use octets::{byte_at, put, put_half, put_word_in};
+use octets::{entry_or, put, put_half, put_word_in};
 
 pub fn in_handler(s: &[u8]) -> bool
     ensures { result ≡ in_handler s.now }
 {
-    byte_at(s, IN_HANDLER) != 0
+    entry_or(s, IN_HANDLER, 0) != 0
 }
 
 // The counter is handed in, and handed back, so that a tick need not read it: what it is worth stands in the save bytes too.

@@ -3,14 +3,14 @@ ghost use Rattle.std.specs.Prelude.{◌≡◌, ◌&&◌, ◌-◌, ◌≤◌, ◌
 ghost use Rattle.schedule.specs.Places.{slot_after, place_with};
 
 use machine::Place;
-use octets::half_at;
+use octets::entry_or;
 
 // Whether refusal 13 lets the place pass.
 pub fn is_place(ticks: &[u16], slots: u8, place: Place) -> bool
     ensures { result ≡ (ltb place.slot slots && ltb place.used (get_or ticks.now place.slot 0)) }
 {
     let there = place.slot < slots as u32;
-    let left = place.used < half_at(ticks, place.slot as usize) as u32;
+    let left = place.used < entry_or(ticks, place.slot as usize, 0) as u32;
     there & left
 }
 
@@ -34,7 +34,7 @@ pub fn turn_at<'a>(ticks: &'a [u16], place: Place) -> Turn
     ensures { result ≡ record { slot = place.slot; left = get_or ticks.now place.slot 0 - place.used } }
 {
     let slot = place.slot;
-    let whole = half_at(ticks, slot as usize) as u32;
+    let whole = entry_or(ticks, slot as usize, 0) as u32;
     Turn {
         slot,
         left: whole - place.used,
@@ -50,12 +50,12 @@ pub fn next_turn<'a>(ticks: &'a [u16], slots: u8, slot: u32) -> Turn
     if next < slots as u32 {
         return Turn {
             slot: next,
-            left: half_at(ticks, next as usize) as u32,
+            left: entry_or(ticks, next as usize, 0) as u32,
         };
     }
     Turn {
         slot: 0,
-        left: half_at(ticks, 0) as u32,
+        left: entry_or(ticks, 0, 0) as u32,
     }
 }
 
@@ -64,7 +64,7 @@ pub fn place_with<'a>(ticks: &'a [u16], slot: u32, left: u32, count: u32) -> Pla
     requires { left ≤ get_or ticks.now slot 0 }
     ensures { result ≡ place_with ticks.now slot left count }
 {
-    let whole = half_at(ticks, slot as usize) as u32;
+    let whole = entry_or(ticks, slot as usize, 0) as u32;
     Place {
         slot,
         used: whole - left,

@@ -4,14 +4,13 @@ ghost use Rattle.bits.specs.Masks.{has};
 ghost use Rattle.machine.specs.Tick.{reaches};
 
 use bits::has_bit;
-use octets::wide;
 
 pub(crate) fn entry<'a>(table: &'a [u16], s: u32) -> usize
     requires { s < length table.now }
     ensures { result ≡ get_or table.now s 0 }
 {
     let i = s as usize;
-    wide(table[i])
+    usize::from(table[i])
 }
 
 // The mask has the segments on which a line gives the right that is asked for.

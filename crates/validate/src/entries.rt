@@ -6,14 +6,14 @@ ghost use Rattle.policy.specs.Sound.{good_segment, good_partition};
 ghost use Rattle.linerules.specs.Parts.{EndedBy, placed};
 
 use linerules::{partition_passes, segment_passes};
-use octets::half_at;
+use octets::entry_or;
 
 // Where the segments up to i have ended.
 fn end_after<'a>(base: &'a [u16], size: &'a [u16], i: u8, end: u32) -> u32
     requires { EndedBy base.now size.now i end }
     ensures { EndedBy base.now size.now (i + 1) result }
 {
-    let next = half_at(base, i as usize) as u32 + half_at(size, i as usize) as u32;
+    let next = entry_or(base, i as usize, 0) as u32 + entry_or(size, i as usize, 0) as u32;
     if end < next { next } else { end }
 }
 

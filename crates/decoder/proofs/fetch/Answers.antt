@@ -11,9 +11,9 @@ returns c =
     let first = second in
     rw (
       c.decode.ensures,
-      fourth.byte_at-4.ensures,
-      third.byte_at-3.ensures,
-      second.byte_at-2.ensures,
-      first.byte_at.ensures,
-      first.wide-i.ensures,
+      fourth.entry_or-4.ensures,
+      third.entry_or-3.ensures,
+      second.entry_or-2.ensures,
+      first.entry_or.ensures,
+      first.from-i.ensures,
     )

@@ -5,4 +5,4 @@ use Rattle.parts.proofs.is_ready.Goals as goal
 
 pub returns : goal.returns
 unfolding is_ready
-returns c = rw (c.byte_at.ensures, add-sub_cancel_left)
+returns c = rw (c.entry_or.ensures, add-sub_cancel_left)

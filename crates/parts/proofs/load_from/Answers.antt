@@ -39,7 +39,7 @@ returns c =
         inside_one,
         lt-ltb _ _ i.if-size-at.false,
         little-one,
-        b.byte_at-x.ensures,
+        b.entry_or-x.ensures,
         add-sub_cancel_left,
       ),
       rw add-sub_cancel_left

@@ -53,4 +53,4 @@ returns c =
       lt-leb _ _ line.if-partitions-partition.false,
       le-ltb _ _ line.if-line-gt-LAST_LINE.false,
     )
-    (refl, rw (one-mul, mod-eq_of_lt (pow-lt {j = 8} small), read.byte_at-lines.ensures, found.save_from.ensures) at stored.put.ensures)
+    (refl, rw (one-mul, mod-eq_of_lt (pow-lt {j = 8} small), read.entry_or-lines.ensures, found.save_from.ensures) at stored.put.ensures)

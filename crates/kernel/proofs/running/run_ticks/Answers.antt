@@ -33,7 +33,7 @@ bounds-policy-save c =
 pub is_able-requires : goal.is_able-requires
 is_able-requires c =
     let g = c.well_formed in
-    rw c.wide.ensures
+    rw c.from.ensures
     (save_inside
     (tick_fits _ _ c.requires.0 _ _ _ _ c.loop-left.invariant.reached (omega arith) (search (rules, g)) (search (rules, g))))
 
@@ -74,7 +74,7 @@ returns-then-left-room c =
       | then-is_able w ↦ w.memory-is ∙ (rw (w.wrapping_add_u32.ensures.value, w.lesser.ensures ∙ sym e) at w.stretch.ensures)
       | else-is_able w ↦
           w.memory-is
-          ∙ sym (idle_ticks (seat (view_of t) p) _ save _ l.left l.memory (rw (← c.wide.ensures) (sym c.is_able.ensures ∙ w.if-is_able.false)))
+          ∙ sym (idle_ticks (seat (view_of t) p) _ save _ l.left l.memory (rw (← c.from.ensures) (sym c.is_able.ensures ∙ w.if-is_able.false)))
     ] in
     rw (c.place_with.ensures, c.wrapping_add_u32-end.ensures.value)
     (ends_in _ _ c.requires.0 _ _ _ _ _ _ l.invariant few _ done).state
@@ -94,6 +94,6 @@ loop-left-preserved c =
       | then-is_able w ↦ w.memory-is ∙ (rw (w.wrapping_add_u32.ensures.value, w.lesser.ensures ∙ sym e) at w.stretch.ensures)
       | else-is_able w ↦
           w.memory-is
-          ∙ sym (idle_ticks (seat (view_of t) p) _ save _ l.turn.left l.memory (rw (← c.wide.ensures) (sym c.is_able.ensures ∙ w.if-is_able.false)))
+          ∙ sym (idle_ticks (seat (view_of t) p) _ save _ l.turn.left l.memory (rw (← c.from.ensures) (sym c.is_able.ensures ∙ w.if-is_able.false)))
     ] in
     ends_slot _ _ c.requires.0 _ _ _ _ _ _ l.invariant few _ done _ c.next_turn-turn.ensures

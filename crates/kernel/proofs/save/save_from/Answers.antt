@@ -2,4 +2,4 @@
 use Rattle.kernel.proofs.save.save_from.Goals as goal
 
 pub returns : goal.returns
-returns c = rw (c.half_at.ensures, c.byte_at.ensures)
+returns c = rw (c.entry_or-2.ensures, c.entry_or.ensures)

@@ -28,7 +28,7 @@ bounds-size-code c =
 pub loop-left-init : goal.loop-left-init
 loop-left-init c =
     let w = c in
-    (refl, none_yet _ _ _ _ _ _ _, rw w.wide-from.ensures w.requires.save_value)
+    (refl, none_yet _ _ _ _ _ _ _, rw w.from-from.ensures w.requires.save_value)
 
 -- What is done after an interrupt or none, and after the ticks that follow it.
 took :
@@ -47,7 +47,7 @@ pub take_interrupt-left-requires : goal.take_interrupt-left-requires
 take_interrupt-left-requires c =
     let h = c in
     let w = h in record {
-      save_size_in_bounds = rw (h.loop-left.invariant.0, w.wide-from.ensures) (save_inside w.requires.seated.0);
+      save_size_in_bounds = rw (h.loop-left.invariant.0, w.from-from.ensures) (save_inside w.requires.seated.0);
       from_value = (h.loop-left.invariant.2, c.loop-left-test.true);
     }
 
@@ -55,7 +55,7 @@ pub returns-then-left-eq0 : goal.returns-then-left-eq0
 returns-then-left-eq0 c =
     let g = c in
     let r = g in
-    to_code _ _ _ _ _ _ _ _ _ _ r.wide-from.ensures r.wide-start.ensures r.wide-room.ensures
+    to_code _ _ _ _ _ _ _ _ _ _ r.from-from.ensures r.from-start.ensures r.from-room.ensures
     (all_done _ _ _ _ _ _ _ _ _ (omega (arith, c.if-left-eq0.true)) (took _ _ _ _ _ _ _ _ _ _ _ _ (search rules) c.wrapping_add_u32-end.ensures.value c.loop-left.invariant.1 c.take_interrupt-left.ensures))
 
 pub ready_ticks-left-requires : goal.ready_ticks-left-requires
@@ -69,8 +69,8 @@ ready_ticks-left-requires c =
     let took = took _ _ _ _ _ _ _ _ _ _ _ _ (search rules) c.wrapping_add_u32-end.ensures.value c.loop-left.invariant.1 c.take_interrupt-left.ensures in
     let long = g.take_interrupt-left.auto.memory in record {
       save_size_in_bounds = (
-        rw (long, h.loop-left.invariant.0, w.wide-from.ensures) (save_inside p.0),
-        rw (long, h.loop-left.invariant.0, r.wide-start.ensures, r.wide-room.ensures) (p.0.every.inside _ p.0.code_there),
+        rw (long, h.loop-left.invariant.0, w.from-from.ensures) (save_inside p.0),
+        rw (long, h.loop-left.invariant.0, r.from-start.ensures, r.from-room.ensures) (p.0.every.inside _ p.0.code_there),
       );
       inside = rw (long, h.loop-left.invariant.0) p.0.every;
       from_value = (g.take_interrupt-left.ensures.1, omega (arith, c.if-left-eq0.false), omega (arith, few, took.most));
@@ -80,7 +80,7 @@ pub returns-then-left-eq0-2 : goal.returns-then-left-eq0-2
 returns-then-left-eq0-2 c =
     let g = c in
     let r = c in
-    to_code _ _ _ _ _ _ _ _ _ _ r.wide-from.ensures r.wide-start.ensures r.wide-room.ensures
+    to_code _ _ _ _ _ _ _ _ _ _ r.from-from.ensures r.from-start.ensures r.from-room.ensures
     (all_done _ _ _ _ _ _ _ _ _ (omega (arith, c.if-left-eq0-2.true)) (went _ _ _ _ _ _ _ _ _ _ _ _ (search rules) c.wrapping_add_u32-end.ensures.value
     (took _ _ _ _ _ _ _ _ _ _ _ _ (search rules) c.wrapping_add_u32-end.ensures.value c.loop-left.invariant.1 c.take_interrupt-left.ensures)
     c.ready_ticks-left.ensures))
@@ -94,7 +94,7 @@ is_able-requires c =
     let h = c in
     let w = h in
     let t = g in
-    still _ _ _ (length t.take_interrupt-left.new.memory) _ _ w.wide-from.ensures g.ready_ticks-left.auto.memory t.take_interrupt-left.auto.memory h.loop-left.invariant.0
+    still _ _ _ (length t.take_interrupt-left.new.memory) _ _ w.from-from.ensures g.ready_ticks-left.auto.memory t.take_interrupt-left.auto.memory h.loop-left.invariant.0
     (save_inside w.requires.seated.0)
 
 pub returns-then-not-is_able : goal.returns-then-not-is_able
@@ -102,7 +102,7 @@ returns-then-not-is_able c =
     let g = c in
     let r = c in
     let w = r in
-    to_code _ _ _ _ _ _ _ _ _ _ w.wide-from.ensures r.wide-start.ensures r.wide-room.ensures
+    to_code _ _ _ _ _ _ _ _ _ _ w.from-from.ensures r.from-start.ensures r.from-room.ensures
     (idle_rest _ _ _ _ _ _ _ _ _ (search rules) (went _ _ _ _ _ _ _ _ _ _ _ _ (search rules) c.wrapping_add_u32-end.ensures.value
     (took _ _ _ _ _ _ _ _ _ _ _ _ (search rules) c.wrapping_add_u32-end.ensures.value c.loop-left.invariant.1 c.take_interrupt-left.ensures)
     c.ready_ticks-left.ensures) (sym c.is_able.ensures ∙ c.if-not-is_able.true))
@@ -127,5 +127,5 @@ shape_of-memory c = c.loop-left.invariant.0
 pub returns : goal.returns
 returns c =
     let r = c in
-    to_code _ _ _ _ _ _ _ _ _ _ r.wide-from.ensures r.wide-start.ensures r.wide-room.ensures
+    to_code _ _ _ _ _ _ _ _ _ _ r.from-from.ensures r.from-start.ensures r.from-room.ensures
     (all_done _ _ _ _ _ _ _ _ _ (omega (arith, c.loop-left-test.false)) c.loop-left.invariant.1)

@@ -2,4 +2,4 @@
 use Rattle.linerules.proofs.clash.partition_clashes.Goals as goal
 
 pub returns : goal.returns
-returns c = rw (c.shares_earlier-shared.ensures, c.half_at-bytes.ensures)
+returns c = rw (c.shares_earlier-shared.ensures, c.entry_or-bytes.ensures)

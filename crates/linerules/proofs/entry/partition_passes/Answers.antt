@@ -9,8 +9,8 @@ pub returns-then-partition_outside : goal.returns-then-partition_outside
 unfolding good_partition out_of_range clashes
 returns-then-partition_outside c =
     rw (
-      ← c.byte_at-code.ensures,
-      ← c.byte_at-save.ensures,
+      ← c.entry_or-code.ensures,
+      ← c.entry_or-save.ensures,
       sym c.partition_outside.ensures ∙ c.if-partition_outside.true,
     )
 
@@ -18,8 +18,8 @@ pub returns : goal.returns
 unfolding good_partition out_of_range clashes
 returns c =
     rw (
-      ← c.byte_at-code.ensures,
-      ← c.byte_at-save.ensures,
+      ← c.entry_or-code.ensures,
+      ← c.entry_or-save.ensures,
       sym c.partition_outside.ensures ∙ c.if-partition_outside.false,
       c.partition_clashes.ensures,
     )

@@ -10,8 +10,8 @@ pub returns-then-segment_outside : goal.returns-then-segment_outside
 unfolding good_segment out_of_range clashes
 returns-then-segment_outside c =
     rw (
-      ← c.half_at-base.ensures,
-      ← c.half_at-size.ensures,
+      ← c.entry_or-base.ensures,
+      ← c.entry_or-size.ensures,
       sym c.segment_outside.ensures ∙ c.if-segment_outside.true,
     )
 
@@ -21,8 +21,8 @@ returns-then-end-base c =
     let start = c in
     let a = start.args in
     rw (
-      ← c.half_at-base.ensures,
-      ← c.half_at-size.ensures,
+      ← c.entry_or-base.ensures,
+      ← c.entry_or-size.ensures,
       sym c.segment_outside.ensures ∙ c.if-segment_outside.false,
       none_past a.bases.now a.sizes.now a.i a.end _ _ start.requires c.if-end-base.true,
     )
@@ -31,8 +31,8 @@ pub returns : goal.returns
 unfolding good_segment out_of_range clashes
 returns c =
     rw (
-      ← c.half_at-base.ensures,
-      ← c.half_at-size.ensures,
+      ← c.entry_or-base.ensures,
+      ← c.entry_or-size.ensures,
       sym c.segment_outside.ensures ∙ c.if-segment_outside.false,
       c.overlaps_earlier.ensures,
     )

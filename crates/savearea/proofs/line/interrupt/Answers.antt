@@ -3,7 +3,7 @@ use Rattle.machine.specs.Local.{entered, interrupted}
 use Rattle.savearea.proofs.line.interrupt.Goals as goal
 
 pub take_line-taken-requires : goal.take_line-taken-requires
-take_line-taken-requires c = rw (c.byte_at.ensures, c.byte_at-2.ensures) c.requires.0
+take_line-taken-requires c = rw (c.entry_or.ensures, c.entry_or-2.ensures) c.requires.0
 
 pub returns : goal.returns
 unfolding interrupted entered
@@ -27,8 +27,8 @@ returns c =
       pended.put.ensures,
       taken.take_line-taken.ensures.line_value,
       taken.take_line-taken.ensures.pended_value,
-      enabled.byte_at-2.ensures,
-      lines.byte_at.ensures,
+      enabled.entry_or-2.ensures,
+      lines.entry_or.ensures,
       handler.get_half-handler.ensures,
       ← handler.requires.1,
     )

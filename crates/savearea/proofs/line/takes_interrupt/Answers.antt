@@ -8,7 +8,7 @@ use Rattle.savearea.proofs.line.takes_interrupt.Goals as goal
 pub returns-then-lines-eq0 : goal.returns-then-lines-eq0
 unfolding takes_interrupt
 returns-then-lines-eq0 c =
-    rw (← c.byte_at.ensures, ← c.byte_at-2.ensures, eq-eqb _ _ c.if-lines-eq0.true, and-false)
+    rw (← c.entry_or.ensures, ← c.entry_or-2.ensures, eq-eqb _ _ c.if-lines-eq0.true, and-false)
 
 pub returns-then-in_handler : goal.returns-then-in_handler
 unfolding takes_interrupt
@@ -21,9 +21,9 @@ returns c =
     let handler = outside in
     let lines = handler in
     rw (
-      c.byte_at-state.ensures,
+      c.entry_or-state.ensures,
       sym handler.in_handler.ensures ∙ outside.if-in_handler.false,
-      ← lines.byte_at.ensures,
-      ← lines.byte_at-2.ensures,
+      ← lines.entry_or.ensures,
+      ← lines.entry_or-2.ensures,
       ne_eqb _ _ lines.if-lines-eq0.false,
     )

@@ -2,4 +2,4 @@
 use Rattle.savearea.proofs.step.in_handler.Goals as goal
 
 pub returns : goal.returns
-returns c = rw c.byte_at.ensures
+returns c = rw c.entry_or.ensures

@@ -2,4 +2,4 @@
 use Rattle.schedule.proofs.place.is_place.Goals as goal
 
 pub returns : goal.returns
-returns c = rw c.half_at.ensures
+returns c = rw c.entry_or.ensures

@@ -2,4 +2,4 @@
 use Rattle.schedule.proofs.place.place_with.Goals as goal
 
 pub returns : goal.returns
-returns c = rw c.half_at-whole.ensures
+returns c = rw c.entry_or-whole.ensures
