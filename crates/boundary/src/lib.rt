@@ -88,7 +88,7 @@ pub extern "C" fn sk_read(text: &[u8]) -> ReadResult
 pub extern "C" fn sk_sound(policy: Policy) -> u32
     ensures { result ≡ cond (sound_of single (tables_of policy)) 1 0 }
 {
-    if sound::sound(policy) { 1 } else { 0 }
+    if sound::sound(&policy) { 1 } else { 0 }
 }
 
 #[unsafe(no_mangle)]

@@ -44,7 +44,7 @@ pub fn start(policy: Policy, memory: &mut [u8]) -> Placed
             place,
         };
     }
-    if !passes_test(policy) {
+    if !passes_test(&policy) {
         return Placed {
             outcome: Outcome::Unsound,
             place,

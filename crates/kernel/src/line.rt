@@ -18,20 +18,16 @@ pub fn pend(policy: Policy, memory: &mut [u8], partition: u32, line: u32) -> Out
     if memory.len() != MEMORY {
         return Outcome::WrongMemory;
     }
-    // Taken out before the test, which then is handed the record itself and not a copy of it.
-    let base = policy.base;
-    let save = policy.save;
-    let partitions = policy.partitions as u32;
-    if !passes_test(policy) {
+    if !passes_test(&policy) {
         return Outcome::Unsound;
     }
-    if partitions <= partition {
+    if policy.partitions as u32 <= partition {
         return Outcome::NoPartition;
     }
     if LAST_LINE < line {
         return Outcome::NoLine;
     }
-    let at = save_from(&base, &save, partition as usize) as usize + PENDED;
+    let at = save_from(&policy.base, &policy.save, partition as usize) as usize + PENDED;
     let lines = entry_or(memory, at, 0);
     put(memory, at, lines | (1u8 << line));
     Outcome::Done

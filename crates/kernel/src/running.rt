@@ -69,16 +69,13 @@ pub fn run(policy: Policy, memory: &mut [u8], place: Place, n: u32) -> Placed
             place,
         };
     }
-    // Taken out before the test, so that the record is copied for the ticks alone.
-    let ticks = policy.ticks;
-    let slots = policy.slots;
-    if !passes_test(policy) {
+    if !passes_test(&policy) {
         return Placed {
             outcome: Outcome::Unsound,
             place,
         };
     }
-    if !is_place(&ticks, slots, place) {
+    if !is_place(&policy.ticks, policy.slots, place) {
         return Placed {
             outcome: Outcome::NoPlace,
             place,

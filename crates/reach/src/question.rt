@@ -22,15 +22,13 @@ pub fn asked_number(asked: Asked) -> u32
 pub fn can_reach(policy: Policy, from: u32, to: u32) -> Answer
     ensures { result ≡ can_reach_answer (under_policy policy) from to }
 {
-    // Taken out before the test: else the whole record is copied for it.
-    let segments = policy.segments;
-    let sources = policy.sources;
-    if !passes_test(policy) {
+    if !passes_test(&policy) {
         return Answer {
             asked: Asked::Unsound,
             yes: false,
         };
     }
+    let segments = policy.segments;
     if (segments as u32 <= from) | (segments as u32 <= to) {
         return Answer {
             asked: Asked::NoSegment,
@@ -39,6 +37,6 @@ pub fn can_reach(policy: Policy, from: u32, to: u32) -> Answer
     }
     Answer {
         asked: Asked::Answered,
-        yes: leads(&sources, segments, from as u8, to as u8),
+        yes: leads(&policy.sources, segments, from as u8, to as u8),
     }
 }

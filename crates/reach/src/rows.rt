@@ -11,16 +11,14 @@ use validate::passes_test;
 pub fn reach(policy: Policy) -> Report
     ensures { result ≡ reach_answer (under_policy policy) }
 {
-    // Taken out before the test: else the whole record is copied for it.
-    let segments = policy.segments;
-    let mut rows = policy.sources;
-    if !passes_test(policy) {
+    if !passes_test(&policy) {
         return Report {
             asked: Asked::Unsound,
             rows: [0; 32],
         };
     }
-    spread_all(&mut rows, segments);
+    let mut rows = policy.sources;
+    spread_all(&mut rows, policy.segments);
     Report {
         asked: Asked::Answered,
         rows,

@@ -12,11 +12,7 @@ use validate::passes_test;
 pub fn sheet_of(policy: Policy) -> Sheet
     ensures { result ≡ sheet_answer (under_policy policy) }
 {
-    // Taken out before the test: else the whole record is copied for it.
-    let slots = policy.slots;
-    let owner = policy.owner;
-    let ticks = policy.ticks;
-    if !passes_test(policy) {
+    if !passes_test(&policy) {
         return Sheet {
             asked: Asked::Unsound,
             ticks: [0; 8],
@@ -25,9 +21,22 @@ pub fn sheet_of(policy: Policy) -> Sheet
     }
     let mut own = [0u32; 8];
     let mut ahead = [0u32; 8];
-    let round = add_slots(&owner, &ticks, slots, &mut own, &mut ahead);
+    let round = add_slots(
+        &policy.owner,
+        &policy.ticks,
+        policy.slots,
+        &mut own,
+        &mut ahead,
+    );
     let mut silence = [0u32; 8];
-    find_longest(&owner, &ticks, slots, round, &mut ahead, &mut silence);
+    find_longest(
+        &policy.owner,
+        &policy.ticks,
+        policy.slots,
+        round,
+        &mut ahead,
+        &mut silence,
+    );
     Sheet {
         asked: Asked::Answered,
         ticks: own,

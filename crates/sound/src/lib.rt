@@ -10,9 +10,9 @@ ghost use Rattle.sound.specs.Decides.{Decides};
 use policy::Policy;
 
 // Decides it for every value that the record can have, out-of-range counts and stray bits included.
-pub fn sound(policy: Policy) -> bool
-    ensures is { result ≡ sound_of single (tables_of policy) }
-    ensures decides { Decides (tables_of policy) result }
+pub fn sound(policy: &Policy) -> bool
+    ensures is { result ≡ sound_of single (tables_of policy.now) }
+    ensures decides { Decides (tables_of policy.now) result }
 {
     validate::passes_test(policy)
 }

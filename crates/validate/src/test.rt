@@ -124,8 +124,8 @@ fn lent_passes<'a>(
 }
 
 // Whether some accepted text gives the record.
-pub fn passes_test(policy: Policy) -> bool
-    ensures { result ≡ sound_of single (tables_of policy) }
+pub fn passes_test(policy: &Policy) -> bool
+    ensures { result ≡ sound_of single (tables_of policy.now) }
 {
     let counts = Counts {
         segments: policy.segments,
@@ -133,17 +133,16 @@ pub fn passes_test(policy: Policy) -> bool
         slots: policy.slots,
         unused: policy.unused,
     };
-    // Each array for itself: where it is read at known places alone, the compiler then reads it where it is and copies nothing.
-    let base = policy.base;
-    let size = policy.size;
-    let code = policy.code;
-    let save = policy.save;
-    let owner = policy.owner;
-    let ticks = policy.ticks;
-    let reads = policy.reads;
-    let writes = policy.writes;
-    let sources = policy.sources;
     lent_passes(
-        counts, &base, &size, &code, &save, &owner, &ticks, &reads, &writes, &sources,
+        counts,
+        &policy.base,
+        &policy.size,
+        &policy.code,
+        &policy.save,
+        &policy.owner,
+        &policy.ticks,
+        &policy.reads,
+        &policy.writes,
+        &policy.sources,
     )
 }

@@ -15,14 +15,14 @@ unfolding pend_outcome after_pend
 returns-then-not-passes_test c =
     rw (eq-eqb _ _ c.if-memory-ne-MEMORY.false, sym c.passes_test.ensures ∙ c.if-not-passes_test.true) (refl, refl)
 
-pub returns-then-partitions-partition : goal.returns-then-partitions-partition
+pub returns-then-policy-partition : goal.returns-then-policy-partition
 unfolding pend_outcome after_pend
-returns-then-partitions-partition c =
+returns-then-policy-partition c =
     let sound = c in
     rw (
       eq-eqb _ _ sound.if-memory-ne-MEMORY.false,
       sym sound.passes_test.ensures ∙ sound.if-not-passes_test.false,
-      le-leb _ _ c.if-partitions-partition.true,
+      le-leb _ _ c.if-policy-partition.true,
     )
     (refl, refl)
 
@@ -33,7 +33,7 @@ returns-then-line-gt-LAST_LINE c =
     rw (
       eq-eqb _ _ sound.if-memory-ne-MEMORY.false,
       sym sound.passes_test.ensures ∙ sound.if-not-passes_test.false,
-      lt-leb _ _ c.if-partitions-partition.false,
+      lt-leb _ _ c.if-policy-partition.false,
       lt-ltb last_line _ c.if-line-gt-LAST_LINE.true,
     )
     (refl, refl)
@@ -50,7 +50,7 @@ returns c =
     rw (
       eq-eqb _ _ sound.if-memory-ne-MEMORY.false,
       sym sound.passes_test.ensures ∙ sound.if-not-passes_test.false,
-      lt-leb _ _ line.if-partitions-partition.false,
+      lt-leb _ _ line.if-policy-partition.false,
       le-ltb _ _ line.if-line-gt-LAST_LINE.false,
     )
     (refl, rw (one-mul, mod-eq_of_lt (pow-lt {j = 8} small), read.entry_or-lines.ensures, found.save_from.ensures) at stored.put.ensures)

@@ -8,7 +8,7 @@ use Rattle.validate.proofs.test.passes_test.Goals as goal
 
 pub returns : goal.returns
 returns c =
-    let lengths : Lengths single (tables_of c.args.policy) =
+    let lengths : Lengths single (tables_of c.args.policy.now) =
     record {
       base = search rules;
       size = search rules;
@@ -20,4 +20,4 @@ returns c =
       writes = search rules;
       sources = search rules;
     } in
-    rw c.lent_passes.ensures (sound_by c.args.policy lengths)
+    rw c.lent_passes.ensures (sound_by c.args.policy.now lengths)
