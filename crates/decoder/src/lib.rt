@@ -4,11 +4,11 @@
 ghost use Rattle.std.specs.Prelude.{◌≡◌, ◌+◌, ◌*◌, get_or};
 ghost use Rattle.machine.specs.Decode.{last_opcode, register_masks, operands_fit, instruction_of, decode_of, fetched};
 
-use machine::{Decoded, Instr};
+use machine::Instr;
 use octets::entry_or;
 
 // An opcode past the table is no instruction, whatever its operands.
-fn instruction(op: u8, a: u8, b: u8, c: u8) -> Decoded
+fn instruction(op: u8, a: u8, b: u8, c: u8) -> Option<Instr>
     ensures { result ≡ instruction_of last_opcode op a b c }
 {
     let ra = a as u32;
@@ -17,23 +17,23 @@ fn instruction(op: u8, a: u8, b: u8, c: u8) -> Decoded
     // Made before the match: its two bytes are then one load.
     let n = rb + 256 * rc;
     match op {
-        0 => Decoded::Runs(Instr::Halt),
-        1 => Decoded::Runs(Instr::Set(ra, n)),
-        2 => Decoded::Runs(Instr::Add(ra, rb, rc)),
-        3 => Decoded::Runs(Instr::Sub(ra, rb, rc)),
-        4 => Decoded::Runs(Instr::And(ra, rb, rc)),
-        5 => Decoded::Runs(Instr::Xor(ra, rb, rc)),
-        6 => Decoded::Runs(Instr::Shift(ra, rb, rc)),
-        7 => Decoded::Runs(Instr::Load(ra, rb, rc)),
-        8 => Decoded::Runs(Instr::Store(ra, rb, rc)),
-        9 => Decoded::Runs(Instr::Jump(ra, n)),
-        10 => Decoded::Runs(Instr::Wait),
-        11 => Decoded::Runs(Instr::Listen(a, n)),
-        12 => Decoded::Runs(Instr::Back),
-        13 => Decoded::Runs(Instr::LoadWord(ra, rb, rc)),
-        14 => Decoded::Runs(Instr::StoreWord(ra, rb, rc)),
-        15 => Decoded::Runs(Instr::Count(ra)),
-        16..=255 => Decoded::Bad,
+        0 => Some(Instr::Halt),
+        1 => Some(Instr::Set(ra, n)),
+        2 => Some(Instr::Add(ra, rb, rc)),
+        3 => Some(Instr::Sub(ra, rb, rc)),
+        4 => Some(Instr::And(ra, rb, rc)),
+        5 => Some(Instr::Xor(ra, rb, rc)),
+        6 => Some(Instr::Shift(ra, rb, rc)),
+        7 => Some(Instr::Load(ra, rb, rc)),
+        8 => Some(Instr::Store(ra, rb, rc)),
+        9 => Some(Instr::Jump(ra, n)),
+        10 => Some(Instr::Wait),
+        11 => Some(Instr::Listen(a, n)),
+        12 => Some(Instr::Back),
+        13 => Some(Instr::LoadWord(ra, rb, rc)),
+        14 => Some(Instr::StoreWord(ra, rb, rc)),
+        15 => Some(Instr::Count(ra)),
+        16..=255 => None,
     }
 }
 
@@ -60,19 +60,19 @@ fn operands_fit(mask: u8, a: u8, b: u8, c: u8) -> bool
     first & (second & third)
 }
 
-fn tested(op: u8, a: u8, b: u8, c: u8) -> Decoded
+fn tested(op: u8, a: u8, b: u8, c: u8) -> Option<Instr>
     ensures { result ≡ decode_of last_opcode op a b c }
 {
     if operands_fit(mask_of(op), a, b, c) {
         instruction(op, a, b, c)
     } else {
-        Decoded::Bad
+        None
     }
 }
 
 // The instruction of four bytes; a bad opcode or register is another answer. Each opcode is passed on as a constant:
 // indexed by it, the table folds away in the compiled code, and so does the second match.
-pub fn decode(op: u8, a: u8, b: u8, c: u8) -> Decoded
+pub fn decode(op: u8, a: u8, b: u8, c: u8) -> Option<Instr>
     ensures { result ≡ decode_of last_opcode op a b c }
 {
     match op {
@@ -92,12 +92,12 @@ pub fn decode(op: u8, a: u8, b: u8, c: u8) -> Decoded
         13 => tested(13, a, b, c),
         14 => tested(14, a, b, c),
         15 => tested(15, a, b, c),
-        16..=255 => Decoded::Bad,
+        16..=255 => None,
     }
 }
 
 // The instruction at a place of the code segment, which is lent.
-pub fn fetch(code: &[u8], at: u16) -> Decoded
+pub fn fetch(code: &[u8], at: u16) -> Option<Instr>
     ensures { result ≡ fetched last_opcode code.now at }
 {
     let i = usize::from(at);

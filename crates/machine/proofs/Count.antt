@@ -3,6 +3,7 @@ use Prim.Native.Nat.{ℕ, ◌+◌, ◌≤◌, ◌<◌}
 use native.Mathlib.Omega.{arith}
 use mathlib.Core.Path.{◌≡◌, refl, sym, ◌∙◌, ap}
 use mathlib.Core.Bool.{true, false}
+use Rattle.std.specs.Prelude.{Option, Some, None}
 use mathlib.Core.List.{List}
 use lib.Dec.{ltb}
 use borrow.Author.Tests.{lt-ltb, le-ltb, ltb-false}
@@ -11,9 +12,8 @@ use Rattle.policy.specs.View.{View}
 use Rattle.policy.specs.Tables.{view_of}
 use Rattle.policy.specs.Lawful.{Lawful}
 use Rattle.policy.proofs.Accepted.{sound_lawful}
+use Rattle.machine.specs.declared.Instr.{Instr}
 use Rattle.machine.specs.declared.Instr.TheVariants.{Halt, Set, Add, Sub, And, Xor, Shift, Load, Store, Jump, Wait, Listen, Back, LoadWord, StoreWord, Count}
-use Rattle.machine.specs.declared.Decoded.{Decoded}
-use Rattle.machine.specs.declared.Decoded.TheVariants.{Runs, Bad}
 use Rattle.machine.specs.Bytes.{part}
 use Rattle.machine.specs.Save.{counter}
 use Rattle.machine.specs.Decode.{last_opcode, operand_fits, operands_fit, instruction_of, decode_of, fetched}
@@ -30,7 +30,7 @@ use Rattle.machine.proofs.Touch.{length-resulted}
 use Rattle.machine.proofs.OneTick.{save_fits, saved_length}
 use Rattle.machine.proofs.Older.{fetches_obeys}
 
-decode_count : (a b c : ℕ) → a < 8 → decode_of last_opcode 15 a b c ≡ Runs (Count a)
+decode_count : (a b c : ℕ) → a < 8 → decode_of last_opcode 15 a b c ≡ Some (Count a)
 unfolding decode_of operands_fit operand_fits instruction_of
 decode_count a b c h = rw (lt-ltb a 8 h)
 
@@ -63,7 +63,7 @@ stamps limits tables sound x st small f few =
           (omega (arith, f.inside, w.size_most (v.code p) (w.code_there p there))));
     }
 
-decode_no_register : (a b c : ℕ) → 8 ≤ a → decode_of last_opcode 15 a b c ≡ Bad
+decode_no_register : (a b c : ℕ) → 8 ≤ a → decode_of last_opcode 15 a b c ≡ None
 unfolding decode_of operands_fit operand_fits
 decode_no_register a b c h = rw (le-ltb a 8 h)
 
@@ -75,25 +75,25 @@ register_alone v x f many =
     ap (λ e. applied (seat v p) (v.base (v.save p)) e x.memory) does
 
 -- What is decoded is no count, if the opcode is not 15; so it does the same at each count.
-obeys_unread : (S : Seat) (s : List ℕ) (look : ℕ → List ℕ) (k k' : ℕ) (d : Decoded) → ((a : ℕ) → d ≡ Runs (Count a) → ⊥) → obeys S s look k d ≡ obeys S s look k' d
+obeys_unread : (S : Seat) (s : List ℕ) (look : ℕ → List ℕ) (k k' : ℕ) (d : Option Instr) → ((a : ℕ) → d ≡ Some (Count a) → ⊥) → obeys S s look k d ≡ obeys S s look k' d
 unfolding obeys executes acts_on
-obeys_unread S s look k k' Bad free = refl
-obeys_unread S s look k k' (Runs Halt) free = refl
-obeys_unread S s look k k' (Runs (Set a n)) free = refl
-obeys_unread S s look k k' (Runs (Add a b c)) free = refl
-obeys_unread S s look k k' (Runs (Sub a b c)) free = refl
-obeys_unread S s look k k' (Runs (And a b c)) free = refl
-obeys_unread S s look k k' (Runs (Xor a b c)) free = refl
-obeys_unread S s look k k' (Runs (Shift a b c)) free = refl
-obeys_unread S s look k k' (Runs (Load a b c)) free = refl
-obeys_unread S s look k k' (Runs (Store a b c)) free = refl
-obeys_unread S s look k k' (Runs (Jump a n)) free = refl
-obeys_unread S s look k k' (Runs Wait) free = refl
-obeys_unread S s look k k' (Runs (Listen a n)) free = refl
-obeys_unread S s look k k' (Runs Back) free = refl
-obeys_unread S s look k k' (Runs (LoadWord a b c)) free = refl
-obeys_unread S s look k k' (Runs (StoreWord a b c)) free = refl
-obeys_unread S s look k k' (Runs (Count a)) free = absurd (free a refl)
+obeys_unread S s look k k' None free = refl
+obeys_unread S s look k k' (Some Halt) free = refl
+obeys_unread S s look k k' (Some (Set a n)) free = refl
+obeys_unread S s look k k' (Some (Add a b c)) free = refl
+obeys_unread S s look k k' (Some (Sub a b c)) free = refl
+obeys_unread S s look k k' (Some (And a b c)) free = refl
+obeys_unread S s look k k' (Some (Xor a b c)) free = refl
+obeys_unread S s look k k' (Some (Shift a b c)) free = refl
+obeys_unread S s look k k' (Some (Load a b c)) free = refl
+obeys_unread S s look k k' (Some (Store a b c)) free = refl
+obeys_unread S s look k k' (Some (Jump a n)) free = refl
+obeys_unread S s look k k' (Some Wait) free = refl
+obeys_unread S s look k k' (Some (Listen a n)) free = refl
+obeys_unread S s look k k' (Some Back) free = refl
+obeys_unread S s look k k' (Some (LoadWord a b c)) free = refl
+obeys_unread S s look k k' (Some (StoreWord a b c)) free = refl
+obeys_unread S s look k k' (Some (Count a)) free = absurd (free a refl)
 
 module _ (v : View) (x : State) (free : Fetches v x 15 → ⊥) where
   abbrev p : ℕ
@@ -105,11 +105,11 @@ module _ (v : View) (x : State) (free : Fetches v x 15 → ⊥) where
   abbrev room : ℕ
   room = v.size (v.code p)
 
-  abbrev instruction : Decoded
+  abbrev instruction : Option Instr
   instruction = fetched last_opcode (code_of v x) (counter (saved_of v x))
 
   no_count : takes_interrupt (saved_of v x) ≡ false → is_ready (saved_of v x) ≡ true → ltb room (counter (saved_of v x) + 4) ≡ false
-      → (a : ℕ) → instruction ≡ Runs (Count a) → ⊥
+      → (a : ℕ) → instruction ≡ Some (Count a) → ⊥
   unfolding fetched
   no_count e f g a d =
       free (record { no_interrupt = e; ready = f; inside = ltb-false _ _ g; at_counter = sym (opcode_kept last_opcode _ _ _ _ (Count a) d) })

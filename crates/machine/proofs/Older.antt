@@ -4,14 +4,14 @@ use Prim.Native.Nat.{ℕ, ◌+◌, ◌≤◌, ◌<◌}
 use native.Mathlib.Omega.{arith}
 use mathlib.Core.Path.{◌≡◌, refl, sym, ◌∙◌, ap}
 use mathlib.Core.Bool.{Bool, true, false}
+use Rattle.std.specs.Prelude.{Option, Some, None}
 use mathlib.Core.List.{List}
 use lib.Dec.{ltb}
 use lib.ListN.{get_or}
 use borrow.Author.Tests.{ltb-true, ltb-false, le-ltb}
 use Rattle.policy.specs.View.{View}
+use Rattle.machine.specs.declared.Instr.{Instr}
 use Rattle.machine.specs.declared.Instr.TheVariants.{Halt, Set, Add, Sub, And, Xor, Shift, Load, Store, Jump, Wait, Listen, Back, LoadWord, StoreWord, Count}
-use Rattle.machine.specs.declared.Decoded.{Decoded}
-use Rattle.machine.specs.declared.Decoded.TheVariants.{Runs, Bad}
 use Rattle.machine.specs.Save.{counter}
 use Rattle.machine.specs.Decode.{last_opcode, instruction_of, decode_of, fetched}
 use Rattle.machine.specs.Place.{moved}
@@ -37,25 +37,25 @@ decode_alike last op a b c k free = go (ltb last op) refl (ltb last_opcode op) r
         decode_above last_opcode op a b c (ltb-true last_opcode op f) ∙ sym (decode_above last op a b c (ltb-true last op e))
 
 module _ (v : View) (last p : ℕ) where
-  obeys_alike : (s : List ℕ) (look : ℕ → List ℕ) (k : ℕ) (d : Decoded) → obeys (seat_up_to v last_opcode p) s look k d ≡ obeys (seat_up_to v last p) s look k d
+  obeys_alike : (s : List ℕ) (look : ℕ → List ℕ) (k : ℕ) (d : Option Instr) → obeys (seat_up_to v last_opcode p) s look k d ≡ obeys (seat_up_to v last p) s look k d
   unfolding obeys executes loads stores_bytes
-  obeys_alike s look k Bad = refl
-  obeys_alike s look k (Runs Halt) = refl
-  obeys_alike s look k (Runs (Set a n)) = refl
-  obeys_alike s look k (Runs (Add a b c)) = refl
-  obeys_alike s look k (Runs (Sub a b c)) = refl
-  obeys_alike s look k (Runs (And a b c)) = refl
-  obeys_alike s look k (Runs (Xor a b c)) = refl
-  obeys_alike s look k (Runs (Shift a b c)) = refl
-  obeys_alike s look k (Runs (Load a b c)) = refl
-  obeys_alike s look k (Runs (Store a b c)) = refl
-  obeys_alike s look k (Runs (Jump a n)) = refl
-  obeys_alike s look k (Runs Wait) = refl
-  obeys_alike s look k (Runs (Listen a n)) = refl
-  obeys_alike s look k (Runs Back) = refl
-  obeys_alike s look k (Runs (LoadWord a b c)) = refl
-  obeys_alike s look k (Runs (StoreWord a b c)) = refl
-  obeys_alike s look k (Runs (Count a)) = refl
+  obeys_alike s look k None = refl
+  obeys_alike s look k (Some Halt) = refl
+  obeys_alike s look k (Some (Set a n)) = refl
+  obeys_alike s look k (Some (Add a b c)) = refl
+  obeys_alike s look k (Some (Sub a b c)) = refl
+  obeys_alike s look k (Some (And a b c)) = refl
+  obeys_alike s look k (Some (Xor a b c)) = refl
+  obeys_alike s look k (Some (Shift a b c)) = refl
+  obeys_alike s look k (Some (Load a b c)) = refl
+  obeys_alike s look k (Some (Store a b c)) = refl
+  obeys_alike s look k (Some (Jump a n)) = refl
+  obeys_alike s look k (Some Wait) = refl
+  obeys_alike s look k (Some (Listen a n)) = refl
+  obeys_alike s look k (Some Back) = refl
+  obeys_alike s look k (Some (LoadWord a b c)) = refl
+  obeys_alike s look k (Some (StoreWord a b c)) = refl
+  obeys_alike s look k (Some (Count a)) = refl
 
   applied_alike : (from : ℕ) (e : Effect) (m : List ℕ) → applied (seat_up_to v last_opcode p) from e m ≡ applied (seat_up_to v last p) from e m
   applied_alike from none m = refl

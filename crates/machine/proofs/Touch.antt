@@ -4,14 +4,13 @@ use Prim.Native.Nat.{ℕ, ◌+◌, ◌≤◌}
 use native.Mathlib.Omega.{arith}
 use mathlib.Core.Path.{◌≡◌, ◌∙◌}
 use mathlib.Core.Bool.{true}
+use Rattle.std.specs.Prelude.{Option, Some, None}
 use mathlib.Core.List.{List}
 use lib.Dec.{ltb, eqb}
 use lib.ListN.{length, set, length-set}
 use borrow.Author.Tests.{leb-true}
 use Rattle.machine.specs.declared.Instr.{Instr}
 use Rattle.machine.specs.declared.Instr.TheVariants.{Halt, Set, Add, Sub, And, Xor, Shift, Load, Store, Jump, Wait, Listen, Back, LoadWord, StoreWord, Count}
-use Rattle.machine.specs.declared.Decoded.{Decoded}
-use Rattle.machine.specs.declared.Decoded.TheVariants.{Runs, Bad}
 use Rattle.machine.specs.declared.Fault.{Fault}
 use Rattle.machine.specs.declared.Fault.TheVariants.{CounterOver, BadInstruction, NoRight, OffsetOver, WrongHandler}
 use Rattle.octets.specs.Numbers.{half, with_half, with_word}
@@ -115,10 +114,10 @@ module _ (S : Seat) where
   executes_touches s look count (Listen a n) h = acts_long s count (Listen a n) h
   executes_touches s look count Back h = acts_long s count Back h
 
-  obeys_touches : (s : List ℕ) (look : ℕ → List ℕ) (count : ℕ) (d : Decoded) → Long s → Touches S (obeys S s look count d)
+  obeys_touches : (s : List ℕ) (look : ℕ → List ℕ) (count : ℕ) (d : Option Instr) → Long s → Touches S (obeys S s look count d)
   unfolding obeys
-  obeys_touches s look count (Runs i) h = executes_touches s look count i h
-  obeys_touches s look count Bad h = length-faults s BadInstruction ∙ h
+  obeys_touches s look count (Some i) h = executes_touches s look count i h
+  obeys_touches s look count None h = length-faults s BadInstruction ∙ h
 
   pub effect_touches : (code_size : ℕ) (x : Sees) → Long x.saved → Touches S (effect S code_size x)
   unfolding effect steps

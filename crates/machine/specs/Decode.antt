@@ -2,13 +2,11 @@
 -- one of thirteen kinds, each with its operands. The table of opcodes says for each which operand bytes must be
 -- registers, below 8; other bytes may have all values." 02, S-2, adds two kinds, opcodes 13 and 14, "operands as for 7
 -- and 8", and S-8 a sixteenth, opcode 15: "a must be a register".
-use Rattle.std.specs.Prelude.{ℕ, ◌+◌, ◌*◌, Bool, ◌&&◌, ◌||◌, cond, List, [], ◌∷◌, get_or, ltb, eqb}
+use Rattle.std.specs.Prelude.{ℕ, ◌+◌, ◌*◌, Bool, ◌&&◌, ◌||◌, cond, List, [], ◌∷◌, get_or, ltb, eqb, Option, Some, None}
 use Rattle.std.specs.Int.Bits.{bit_and}
 use Rattle.machine.specs.declared.Instr.{Instr}
 use Rattle.machine.specs.declared.Instr.TheVariants.{Halt, Set, Add, Sub, And, Xor, Shift, Load, Store, Jump}
 use Rattle.machine.specs.declared.Instr.TheVariants.{Wait, Listen, Back, LoadWord, StoreWord, Count}
-use Rattle.machine.specs.declared.Decoded.{Decoded}
-use Rattle.machine.specs.declared.Decoded.TheVariants.{Runs, Bad}
 
 -- The highest opcode of this machine, of document 01's, "Every opcode above 12 is fault 2", and of the machine before S-8.
 abbrev pub last_opcode : ℕ
@@ -53,31 +51,31 @@ operands_fit mask a b c =
 
 -- The instruction of an opcode, with the operands that it has, on a machine whose highest opcode is `last`: every opcode
 -- above it is fault 2.
-unfoldable pub instruction_of : ℕ → ℕ → ℕ → ℕ → ℕ → Decoded
+unfoldable pub instruction_of : ℕ → ℕ → ℕ → ℕ → ℕ → Option Instr
 instruction_of last op a b c =
-    cond (ltb last op) Bad
-    (cond (eqb op 0) (Runs Halt)
-    (cond (eqb op 1) (Runs (Set a (b + 256 * c)))
-    (cond (eqb op 2) (Runs (Add a b c))
-    (cond (eqb op 3) (Runs (Sub a b c))
-    (cond (eqb op 4) (Runs (And a b c))
-    (cond (eqb op 5) (Runs (Xor a b c))
-    (cond (eqb op 6) (Runs (Shift a b c))
-    (cond (eqb op 7) (Runs (Load a b c))
-    (cond (eqb op 8) (Runs (Store a b c))
-    (cond (eqb op 9) (Runs (Jump a (b + 256 * c)))
-    (cond (eqb op 10) (Runs Wait)
-    (cond (eqb op 11) (Runs (Listen a (b + 256 * c)))
-    (cond (eqb op 12) (Runs Back)
-    (cond (eqb op 13) (Runs (LoadWord a b c))
-    (cond (eqb op 14) (Runs (StoreWord a b c))
-    (cond (eqb op 15) (Runs (Count a)) Bad))))))))))))))))
+    cond (ltb last op) None
+    (cond (eqb op 0) (Some Halt)
+    (cond (eqb op 1) (Some (Set a (b + 256 * c)))
+    (cond (eqb op 2) (Some (Add a b c))
+    (cond (eqb op 3) (Some (Sub a b c))
+    (cond (eqb op 4) (Some (And a b c))
+    (cond (eqb op 5) (Some (Xor a b c))
+    (cond (eqb op 6) (Some (Shift a b c))
+    (cond (eqb op 7) (Some (Load a b c))
+    (cond (eqb op 8) (Some (Store a b c))
+    (cond (eqb op 9) (Some (Jump a (b + 256 * c)))
+    (cond (eqb op 10) (Some Wait)
+    (cond (eqb op 11) (Some (Listen a (b + 256 * c)))
+    (cond (eqb op 12) (Some Back)
+    (cond (eqb op 13) (Some (LoadWord a b c))
+    (cond (eqb op 14) (Some (StoreWord a b c))
+    (cond (eqb op 15) (Some (Count a)) None))))))))))))))))
 
 -- Four bytes: an instruction, or a bad opcode or register. Past the table no operand must be a register.
-unfoldable pub decode_of : ℕ → ℕ → ℕ → ℕ → ℕ → Decoded
-decode_of last op a b c = cond (operands_fit (get_or register_masks op 0) a b c) (instruction_of last op a b c) Bad
+unfoldable pub decode_of : ℕ → ℕ → ℕ → ℕ → ℕ → Option Instr
+decode_of last op a b c = cond (operands_fit (get_or register_masks op 0) a b c) (instruction_of last op a b c) None
 
 -- The instruction at a place of the code.
-unfoldable pub fetched : ℕ → List ℕ → ℕ → Decoded
+unfoldable pub fetched : ℕ → List ℕ → ℕ → Option Instr
 fetched last code at =
     decode_of last (get_or code at 0) (get_or code (at + 1) 0) (get_or code (at + 2) 0) (get_or code (at + 3) 0)

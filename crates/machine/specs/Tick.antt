@@ -1,12 +1,10 @@
 -- 01, "A tick": one tick is an effect, worked out from what the current partition sees and from nothing else, and put
 -- into memory.
-use Rattle.std.specs.Prelude.{ℕ, ◌+◌, Bool, ◌&&◌, cond, List, [], leb, ltb}
+use Rattle.std.specs.Prelude.{ℕ, ◌+◌, Bool, ◌&&◌, cond, List, [], leb, ltb, Option, Some, None}
 use Rattle.std.proofs.lemmas.List.Edits.{sets}
 use Rattle.machine.specs.declared.Instr.{Instr}
 use Rattle.machine.specs.declared.Instr.TheVariants.{Halt, Set, Add, Sub, And, Xor, Shift, Load, Store, Jump}
 use Rattle.machine.specs.declared.Instr.TheVariants.{Wait, Listen, Back, LoadWord, StoreWord, Count}
-use Rattle.machine.specs.declared.Decoded.{Decoded}
-use Rattle.machine.specs.declared.Decoded.TheVariants.{Runs, Bad}
 use Rattle.machine.specs.declared.Fault.TheVariants.{CounterOver, BadInstruction, NoRight, OffsetOver}
 use Rattle.machine.specs.Bytes.{part, with_part, little, digits}
 use Rattle.machine.specs.Layout.{layout}
@@ -112,9 +110,9 @@ module _ (S : Seat) where
   executes save look count (Count a) = saves (acts_on save count (Count a))
 
   -- "2 bad opcode or register"
-  unfoldable pub obeys : List ℕ → (ℕ → List ℕ) → ℕ → Decoded → Effect
-  obeys save look count (Runs i) = executes save look count i
-  obeys save look count Bad = saves (faults save BadInstruction)
+  unfoldable pub obeys : List ℕ → (ℕ → List ℕ) → ℕ → Option Instr → Effect
+  obeys save look count (Some i) = executes save look count i
+  obeys save look count None = saves (faults save BadInstruction)
 
   -- The instruction at the counter. "1 counter + 4 is over the code length"
   unfoldable pub steps : ℕ → Sees → Effect

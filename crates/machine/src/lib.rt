@@ -9,7 +9,7 @@ pub const MOST_TICKS_OF_RUN: u32 = 10000;
 
 // The kinds of instruction, each with its operands: registers, a number, a segment. Operands of four bytes keep the
 // compiler from packing an instruction into one number; the lines that a listen enables are a byte of the save segment.
-#[derive(Clone, Copy)]
+#[derive(Clone, Copy, PartialEq, Eq, Debug)]
 pub enum Instr {
     Halt,
     Set(u32, u32),
@@ -29,15 +29,8 @@ pub enum Instr {
     Count(u32),
 }
 
-// What four bytes of code are: an instruction, or none.
-#[derive(Clone, Copy)]
-pub enum Decoded {
-    Runs(Instr),
-    Bad,
-}
-
 // Why an instruction does not run.
-#[derive(Clone, Copy)]
+#[derive(Clone, Copy, PartialEq, Eq, Debug)]
 pub enum Fault {
     CounterOver,
     BadInstruction,
@@ -49,7 +42,7 @@ pub enum Fault {
 // Where the schedule stands: a slot, the ticks of it that are used, and the count of the ticks since Start, which comes
 // round to 0.
 #[repr(C)]
-#[derive(Clone, Copy)]
+#[derive(Clone, Copy, PartialEq, Eq, Debug)]
 pub struct Place {
     pub slot: u32,
     pub used: u32,

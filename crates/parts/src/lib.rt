@@ -13,7 +13,7 @@ ghost use Rattle.machine.specs.Local.{takes_interrupt, interrupted, is_ready, is
 ghost use Rattle.savearea.specs.Next.{Hands};
 ghost use Rattle.parts.specs.Parts.{saved_at, with_saved, is_beside, loaded_from, stored_to};
 
-use machine::{Decoded, Fault};
+use machine::{Fault, Instr};
 use octets::{entry_or, get_half, get_word_in, low, put, put_word_at, word_at};
 use policy::SAVE_SIZE;
 use savearea::asking;
@@ -82,7 +82,7 @@ pub fn interrupt(memory: &mut [u8], from: usize, pc: u16)
 }
 
 // The instruction at a place of the code segment.
-pub fn fetch(memory: &[u8], start: usize, size: usize, at: u16) -> Decoded
+pub fn fetch(memory: &[u8], start: usize, size: usize, at: u16) -> Option<Instr>
     requires { start + size ≤ length memory.now }
     ensures { result ≡ fetched last_opcode (part memory.now start size) at }
 {

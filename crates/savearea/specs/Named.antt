@@ -1,10 +1,8 @@
 -- 01, "A tick": "which operand bytes must be registers, below 8". What a decoded instruction is known to name.
-use Rattle.std.specs.Prelude.{◌<◌}
+use Rattle.std.specs.Prelude.{◌<◌, Option, Some, None}
 use Rattle.machine.specs.declared.Instr.{Instr}
 use Rattle.machine.specs.declared.Instr.TheVariants.{Halt, Set, Add, Sub, And, Xor, Shift, Load, Store, Jump}
 use Rattle.machine.specs.declared.Instr.TheVariants.{Wait, Listen, Back, LoadWord, StoreWord, Count}
-use Rattle.machine.specs.declared.Decoded.{Decoded}
-use Rattle.machine.specs.declared.Decoded.TheVariants.{Runs, Bad}
 
 -- Every register that an instruction names is one of the eight.
 abbrev pub Named : Instr → Type 0
@@ -26,6 +24,6 @@ Named (StoreWord a b c) = (a < 8) × (b < 8)
 Named (Count a) = a < 8
 
 -- Of four bytes, if they are an instruction.
-abbrev pub NamedIn : Decoded → Type 0
-NamedIn (Runs i) = Named i
-NamedIn Bad = Unit {0}
+abbrev pub NamedIn : Option Instr → Type 0
+NamedIn (Some i) = Named i
+NamedIn None = Unit {0}

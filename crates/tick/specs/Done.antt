@@ -1,6 +1,6 @@
 -- Memory after each step of a tick, by numbers: the save bytes from `from` on, and `room` bytes of code from `start` on.
-use Rattle.std.specs.Prelude.{ℕ, List}
-use Rattle.machine.specs.declared.Decoded.{Decoded}
+use Rattle.std.specs.Prelude.{ℕ, List, Option}
+use Rattle.machine.specs.declared.Instr.{Instr}
 use Rattle.machine.specs.Bytes.{part}
 use Rattle.machine.specs.Tick.{Seat, Sees, looks, loads, stores_bytes, obeys, effect, applied}
 use Rattle.parts.specs.Parts.{saved_at, with_saved}
@@ -13,7 +13,7 @@ module _ (S : Seat) where
   abbrev pub stored : ℕ → ℕ → List ℕ → ℕ → ℕ → ℕ → List ℕ
   stored width from memory a b c = applied S from (stores_bytes S width (saved_at memory from) a b c) memory
 
-  abbrev pub obeyed : ℕ → List ℕ → ℕ → Decoded → List ℕ
+  abbrev pub obeyed : ℕ → List ℕ → ℕ → Option Instr → List ℕ
   obeyed from memory count d = applied S from (obeys S (saved_at memory from) (looks S memory) count d) memory
 
   -- What the partition sees whose bytes these are.

@@ -21,7 +21,7 @@ use crate::loading::load;
 use crate::storing::store;
 use crate::words::{load_word, store_word};
 use local::act;
-use machine::{Decoded, Fault, Instr};
+use machine::{Fault, Instr};
 use parts::{fault, fetch};
 use policy::SAVE_SIZE;
 use savearea::asking;
@@ -37,7 +37,7 @@ fn obey<'a>(
     from: usize,
     count: u32,
     pc: u16,
-    d: Decoded,
+    d: Option<Instr>,
 ) -> u32
     requires save_size_in_bounds { from + save_size ≤ length memory.old }
     requires inside { Inside base.now size.now segments (length memory.old) }
@@ -47,7 +47,7 @@ fn obey<'a>(
         from memory.old count d)
         × Hands result (saved_at memory.old from) (saved_at memory.new from) }
 {
-    let Decoded::Runs(i) = d else {
+    let Some(i) = d else {
         fault(memory, from, Fault::BadInstruction);
         return asking(pc);
     };

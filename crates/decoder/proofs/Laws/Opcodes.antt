@@ -2,7 +2,7 @@
 use Prim.Native.Nat.{ℕ, zero, suc, ◌≤◌, zero-le}
 use native.Mathlib.Omega.{arith}
 use mathlib.Core.Path.{◌≡◌}
-use Rattle.machine.specs.declared.Decoded.TheVariants.{Bad}
+use Rattle.std.specs.Prelude.{None}
 use Rattle.machine.specs.Decode.{last_opcode, instruction_of, decode_of}
 use Rattle.machine.proofs.Laws.Opcodes.{instruction_above, decode_above}
 
@@ -18,8 +18,8 @@ above (suc n) op d =
     let e = d.1 in
     omega arith
 
-pub instruction_none : (op a b c : ℕ) → NoneBelow 16 op → instruction_of last_opcode op a b c ≡ Bad
+pub instruction_none : (op a b c : ℕ) → NoneBelow 16 op → instruction_of last_opcode op a b c ≡ None
 instruction_none op a b c d = instruction_above last_opcode op a b c (above 16 op d)
 
-pub decode_none : (op a b c : ℕ) → NoneBelow 16 op → decode_of last_opcode op a b c ≡ Bad
+pub decode_none : (op a b c : ℕ) → NoneBelow 16 op → decode_of last_opcode op a b c ≡ None
 decode_none op a b c d = decode_above last_opcode op a b c (above 16 op d)

@@ -21,7 +21,7 @@ load-requires c =
     let arm = c in
     let kind = arm in
     let p = kind.requires in
-    let named = rw (kind.in-Runs.is, arm.in-Load.is) at p.pc_value.1 in record {
+    let named = rw (kind.in-Some.is, arm.in-Load.is) at p.pc_value.1 in record {
       save_size_in_bounds = p.save_size_in_bounds;
       inside = p.inside;
       pc_value = (p.pc_value.0, named.0, named.1);
@@ -32,7 +32,7 @@ store-requires c =
     let arm = c in
     let kind = arm in
     let p = kind.requires in
-    let named = rw (kind.in-Runs.is, arm.in-Store.is) at p.pc_value.1 in record {
+    let named = rw (kind.in-Some.is, arm.in-Store.is) at p.pc_value.1 in record {
       save_size_in_bounds = p.save_size_in_bounds;
       inside = p.inside;
       pc_value = (p.pc_value.0, named.0, named.1);
@@ -43,7 +43,7 @@ load_word-requires c =
     let arm = c in
     let kind = arm in
     let p = kind.requires in
-    let named = rw (kind.in-Runs.is, arm.in-LoadWord.is) at p.pc_value.1 in record {
+    let named = rw (kind.in-Some.is, arm.in-LoadWord.is) at p.pc_value.1 in record {
       save_size_in_bounds = p.save_size_in_bounds;
       inside = p.inside;
       pc_value = (p.pc_value.0, named.0, named.1);
@@ -54,7 +54,7 @@ store_word-requires c =
     let arm = c in
     let kind = arm in
     let p = kind.requires in
-    let named = rw (kind.in-Runs.is, arm.in-StoreWord.is) at p.pc_value.1 in record {
+    let named = rw (kind.in-Some.is, arm.in-StoreWord.is) at p.pc_value.1 in record {
       save_size_in_bounds = p.save_size_in_bounds;
       inside = p.inside;
       pc_value = (p.pc_value.0, named.0, named.1);
@@ -64,7 +64,7 @@ pub act-requires : goal.act-requires
 act-requires c =
     let kind = c in
     let p = kind.requires in
-    (rw add-sub_cancel_left p.pc_value.0, search rules, rw kind.in-Runs.is at p.pc_value.1)
+    (rw add-sub_cancel_left p.pc_value.0, search rules, rw kind.in-Some.is at p.pc_value.1)
 
 pub returns-in-Load : goal.returns-in-Load
 unfolding obeys executes
@@ -72,7 +72,7 @@ returns-in-Load c =
     let call = c in
     let arm = call in
     let e = call.load.ensures in
-    (rw (arm.in-Runs.is, arm.in-Load.is) (e.0 _), e.1)
+    (rw (arm.in-Some.is, arm.in-Load.is) (e.0 _), e.1)
 
 pub returns-in-Store : goal.returns-in-Store
 unfolding obeys executes
@@ -80,7 +80,7 @@ returns-in-Store c =
     let call = c in
     let arm = call in
     let e = call.store.ensures in
-    (rw (arm.in-Runs.is, arm.in-Store.is) (e.0 _), e.1)
+    (rw (arm.in-Some.is, arm.in-Store.is) (e.0 _), e.1)
 
 pub returns-in-LoadWord : goal.returns-in-LoadWord
 unfolding obeys executes
@@ -88,7 +88,7 @@ returns-in-LoadWord c =
     let call = c in
     let arm = call in
     let e = call.load_word.ensures in
-    (rw (arm.in-Runs.is, arm.in-LoadWord.is) (e.0 _), e.1)
+    (rw (arm.in-Some.is, arm.in-LoadWord.is) (e.0 _), e.1)
 
 pub returns-in-StoreWord : goal.returns-in-StoreWord
 unfolding obeys executes
@@ -96,7 +96,7 @@ returns-in-StoreWord c =
     let call = c in
     let arm = call in
     let e = call.store_word.ensures in
-    (rw (arm.in-Runs.is, arm.in-StoreWord.is) (e.0 _), e.1)
+    (rw (arm.in-Some.is, arm.in-StoreWord.is) (e.0 _), e.1)
 
 pub returns-in_default-i : goal.returns-in_default-i
 unfolding obeys
@@ -104,10 +104,10 @@ returns-in_default-i c =
     let act = c in
     let arm = act in
     let d = arm.in_default-i in
-    let other : IsAlone arm.in-Runs.i =
+    let other : IsAlone arm.in-Some.i =
     record { no_load = d.not-Load; no_store = d.not-Store; no_load_word = d.not-LoadWord; no_store_word = d.not-StoreWord } in
     let p = arm.requires in
     let long = rw add-sub_cancel_left at act.act.auto.s in (
-      rw (arm.in-Runs.is, act.act.ensures.0, add-sub_cancel_left, acts_alone),
+      rw (arm.in-Some.is, act.act.ensures.0, add-sub_cancel_left, acts_alone),
       rw add-sub_cancel_left (hands_back _ _ p.save_size_in_bounds _ long _ (rw add-sub_cancel_left at act.act.ensures.1)),
     )
