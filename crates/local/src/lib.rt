@@ -11,7 +11,7 @@ ghost use Rattle.savearea.specs.Next.{Hands};
 
 use machine::{Fault, Instr};
 use octets::{get_half, get_word_in, put, put_half};
-use savearea::layout::{COUNTER, ENABLED, HALTED, HANDLER, IN_HANDLER, RETURN, STATE, WAITING};
+use savearea::layout::{COUNTER, ENABLED, HANDLER, IN_HANDLER, RETURN, STATE, State};
 use savearea::{advance, asking, fault, in_handler, put_result};
 
 // The library says of a difference what it sums to; this says what it is.
@@ -42,7 +42,7 @@ fn wait(s: &mut [u8], pc: u16) -> u16
         pc
     } else {
         let next = advance(s, pc);
-        put(s, STATE, WAITING);
+        put(s, STATE, State::Waiting as u8);
         next
     }
 }
@@ -70,7 +70,7 @@ pub fn act(s: &mut [u8], count: u32, pc: u16, i: Instr) -> u32
 {
     match i {
         Instr::Halt => {
-            put(s, STATE, HALTED);
+            put(s, STATE, State::Halted as u8);
             asking(pc)
         }
         Instr::Set(a, n) => put_result(s, a, n, pc) as u32,

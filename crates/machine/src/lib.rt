@@ -1,6 +1,9 @@
-// The tick machine: its instructions, its faults and the schedule place, and in specs/ what a tick does. No code that
-// runs: the crates above prove theirs against these definitions.
+// The tick machine: its instructions, its faults and the schedule place, and in specs/ what a tick does. But for the
+// numbers of the faults no code that runs: the crates above prove theirs against these definitions.
 #![tactic(auto)]
+
+ghost use Rattle.std.specs.Prelude.{◌≡◌};
+ghost use Rattle.machine.specs.Faults.{fault_number};
 
 // The highest line of a partition, and the most ticks of a Run.
 pub const LAST_LINE: u32 = 7;
@@ -37,6 +40,20 @@ pub enum Fault {
     NoRight,
     OffsetOver,
     WrongHandler,
+}
+
+impl From<Fault> for u8 {
+    ghost from_gives = { λ f n. n ≡ fault_number f };
+
+    fn from(f: Fault) -> u8 {
+        match f {
+            Fault::CounterOver => 1,
+            Fault::BadInstruction => 2,
+            Fault::NoRight => 3,
+            Fault::OffsetOver => 4,
+            Fault::WrongHandler => 5,
+        }
+    }
 }
 
 // Where the schedule stands: a slot, the ticks of it that are used, and the count of the ticks since Start, which comes

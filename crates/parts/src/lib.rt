@@ -17,7 +17,7 @@ use machine::{Fault, Instr};
 use octets::{entry_or, get_half, get_word_in, low, put, put_word_at, word_at};
 use policy::SAVE_SIZE;
 use savearea::asking;
-use savearea::layout::{COUNTER, READY, STATE};
+use savearea::layout::{COUNTER, STATE, State};
 
 pub fn fault(memory: &mut [u8], from: usize, f: Fault)
     requires { from + save_size ≤ length memory.old }
@@ -49,7 +49,7 @@ pub fn is_ready(memory: &[u8], from: usize) -> bool
     ensures { result ≡ is_ready (saved_at memory.now from) }
 {
     let to = from + SAVE_SIZE;
-    entry_or(&memory[from..to], STATE, 0) == READY
+    entry_or(&memory[from..to], STATE, 0) == State::Ready as u8
 }
 
 pub fn takes_interrupt(memory: &[u8], from: usize) -> bool

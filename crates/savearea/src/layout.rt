@@ -18,11 +18,11 @@ pub const IN_HANDLER: usize = 42;
 // The register that takes the line of an interrupt.
 pub const LINE: u32 = 7;
 
-// The states.
-pub const READY: u8 = 0;
-
-pub const HALTED: u8 = 1;
-
-pub const FAULTED: u8 = 2;
-
-pub const WAITING: u8 = 3;
+// What the state byte says of a partition; above 3 it is taken as halted, so what is read there stays a byte.
+#[derive(Clone, Copy, PartialEq, Eq, Debug)]
+pub enum State {
+    Ready = 0,
+    Halted = 1,
+    Faulted = 2,
+    Waiting = 3,
+}

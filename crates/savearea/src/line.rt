@@ -4,9 +4,7 @@ ghost use Rattle.std.specs.Int.Bits.{bit_and};
 ghost use Rattle.machine.specs.Save.{counter, due};
 ghost use Rattle.machine.specs.Local.{takes_interrupt, lowest, interrupted};
 
-use crate::layout::{
-    COUNTER, ENABLED, HANDLER, IN_HANDLER, LINE, PENDED, READY, RETURN, STATE, WAITING,
-};
+use crate::layout::{COUNTER, ENABLED, HANDLER, IN_HANDLER, LINE, PENDED, RETURN, STATE, State};
 use crate::step::in_handler;
 use octets::{entry_or, get_half, put, put_half, put_word};
 
@@ -23,7 +21,7 @@ pub fn takes_interrupt(s: &[u8]) -> bool
         return false;
     }
     let state = entry_or(s, STATE, 0);
-    (state == READY) | (state == WAITING)
+    (state == State::Ready as u8) | (state == State::Waiting as u8)
 }
 
 #[derive(Clone, Copy)]
@@ -59,5 +57,5 @@ pub fn interrupt(s: &mut [u8], pc: u16)
     put_half(s, RETURN, pc as u32);
     put_half(s, COUNTER, handler);
     put(s, IN_HANDLER, 1);
-    put(s, STATE, READY);
+    put(s, STATE, State::Ready as u8);
 }

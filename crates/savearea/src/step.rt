@@ -2,10 +2,10 @@
 ghost use Rattle.std.specs.Prelude.{◌≡◌, ◌+◌, ◌≤◌, ◌<◌, length};
 ghost use Rattle.policy.specs.Limits.{save_size};
 ghost use Rattle.machine.specs.Save.{counter, in_handler};
-ghost use Rattle.machine.specs.Faults.{fault_number, faults};
+ghost use Rattle.machine.specs.Faults.{faults};
 ghost use Rattle.machine.specs.Local.{advanced, resulted};
 
-use crate::layout::{COUNTER, FAULT, FAULTED, IN_HANDLER, STATE};
+use crate::layout::{COUNTER, FAULT, IN_HANDLER, STATE, State};
 use machine::Fault;
 use octets::{entry_or, put, put_half, put_word_in};
 
@@ -43,22 +43,9 @@ pub fn asking(pc: u16) -> u32
     pc as u32 + ASKING
 }
 
-fn fault_number(f: Fault) -> u8
-    ensures { result ≡ fault_number f }
-{
-    match f {
-        Fault::CounterOver => 1,
-        Fault::BadInstruction => 2,
-        Fault::NoRight => 3,
-        Fault::OffsetOver => 4,
-        Fault::WrongHandler => 5,
-    }
-}
-
 pub fn fault(s: &mut [u8], f: Fault)
     ensures { s.new ≡ faults s.old f }
 {
-    let n = fault_number(f);
-    put(s, STATE, FAULTED);
-    put(s, FAULT, n);
+    put(s, STATE, State::Faulted as u8);
+    put(s, FAULT, u8::from(f));
 }

@@ -7,4 +7,4 @@ unfolding faults
 returns c =
     let fault = c in
     let state = fault in
-    rw (fault.put-2.ensures, state.put.ensures, state.fault_number-n.ensures)
+    rw (fault.put-2.ensures, state.put.ensures, c.from.ensures)
