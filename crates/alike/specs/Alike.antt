@@ -1,7 +1,7 @@
 -- 02, S-6: "Show that old and new records from the same text stand for the same rights and flows, and that all operations
 -- answer alike on them."
 use Rattle.std.specs.Prelude.{ℕ, ◌≡◌, true, List, ◌↔◌}
-use Rattle.policy.specs.declared.record.Refusal.{Refusal}
+use Rattle.policy.specs.Refusals.{Verdict}
 use Rattle.policy.specs.Limits.{single}
 use Rattle.policy.specs.Tables.{Tables, view_of}
 use Rattle.policy.specs.Read.{Answer, read_of}
@@ -61,7 +61,7 @@ pub record AnswersAlike (b : Bytes) (u : Under) (t : Tables) : Type 0 where
       after_pend u memory partition line ≡ after_pend (under single t) memory partition line
   pub run : (x : State) (n : ℕ) → run_answer u x n ≡ run_answer (under single t) x n
   pub run_state : (x : State) (n : ℕ) → after_run u x n ≡ after_run (under single t) x n
-  pub report : (refusal : Refusal) → report_with refusal (view_of_bytes b) ≡ report_with refusal (view_of t)
+  pub report : (refusal : Verdict) → report_with refusal (view_of_bytes b) ≡ report_with refusal (view_of t)
 
 -- For each byte record whose bytes are those that 01 names, and the masks that stand for the same.
 abbrev pub AllAlike : Type 0

@@ -1,17 +1,16 @@
 -- 01, "Memory and policy": the record as it was before 02's S-6, with a byte for each pair. It stands here for the comparison
 -- with the masks alone: no code has it.
-use Rattle.std.specs.Prelude.{ℕ, ◌+◌, ◌*◌, ◌≤◌, ◌≡◌, ◌&&◌, cond, List, [], ◌∷◌, eqb, ltb, length, get_or, set, replicate}
+use Rattle.std.specs.Prelude.{ℕ, ◌+◌, ◌*◌, ◌≤◌, ◌≡◌, ◌&&◌, cond, List, [], ◌∷◌, eqb, ltb, length, get_or, set, replicate, Ok, Err}
 use Rattle.bits.specs.Masks.{AllUnder}
 use Rattle.text.specs.Lines.{lines_of}
 use Rattle.text.specs.declared.line.Line.{Line}
 use Rattle.text.specs.declared.line.Line.TheVariants.{Bad, Segment, Partition, Right, Flow, Slot}
 use Rattle.policy.specs.declared.record.Key.{Key}
-use Rattle.policy.specs.declared.record.Refusal.{Refusal}
-use Rattle.policy.specs.declared.record.Refusal.TheVariants.{Accepted, TooLong}
+use Rattle.policy.specs.declared.record.Refusal.TheVariants.{TooLong}
 use Rattle.policy.specs.Limits.{single}
 use Rattle.policy.specs.Modes.{gives_read, gives_write}
 use Rattle.policy.specs.Order.{key_of}
-use Rattle.policy.specs.Refusals.{is_accepted}
+use Rattle.policy.specs.Refusals.{Verdict, is_accepted}
 use Rattle.policy.specs.View.{View}
 use Rattle.policy.specs.Tables.{Segments, Partitions, Slots, Tables, zeros, view_of}
 use Rattle.policy.specs.Draft.{with_segment, with_partition, with_slot, no_line}
@@ -106,10 +105,10 @@ added_bytes b (Slot partition ticks) =
 
 -- Reading a text into it, by the rules of Read.antt.
 pub record BytesAnswer : Type 0 where
-  pub refusal : Refusal
+  pub refusal : Verdict
   pub bytes : Bytes
 
-abbrev pub answer_bytes : Refusal → Bytes → BytesAnswer
+abbrev pub answer_bytes : Verdict → Bytes → BytesAnswer
 answer_bytes refusal b = record { refusal = refusal; bytes = cond (is_accepted refusal) b zero_bytes }
 
 unfoldable pub read_bytes_from : ℕ → Key → Bytes → List Line → BytesAnswer
@@ -122,12 +121,12 @@ read_bytes_from n before b (line ∷ lines) =
 unfoldable pub read_bytes : List ℕ → BytesAnswer
 read_bytes text =
     let rest = read_bytes_from 1 no_line zero_bytes (lines_of text) in
-    cond (too_long single text) (answer_bytes TooLong zero_bytes) rest
+    cond (too_long single text) (answer_bytes (Err TooLong) zero_bytes) rest
 
 -- "A record is sound if some accepted text gives it."
 pub record SoundBytes (b : Bytes) : Type 0 where
   pub text : List ℕ
-  pub gives : read_bytes text ≡ record { refusal = Accepted; bytes = b }
+  pub gives : read_bytes text ≡ record { refusal = Ok tt; bytes = b }
 
 -- A table of bytes has its length and the values that 01 gives its bytes.
 pub record AreBytes (b : Bytes) : Type 0 where

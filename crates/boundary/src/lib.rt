@@ -74,13 +74,17 @@ pub extern "C" fn sk_version() -> u32
 pub extern "C" fn sk_read(text: &[u8]) -> ReadResult
     ensures { Tells result (read_of single text.now) }
 {
-    let reading = reader::read(text);
-    let refusal = reading.refusal;
-    let policy = reading.policy;
-    ReadResult {
-        number: reader::number_of(refusal),
-        line: reader::line_number_of(refusal),
-        policy,
+    match reader::read(text) {
+        Ok(policy) => ReadResult {
+            number: 0,
+            line: 0,
+            policy,
+        },
+        Err(refusal) => ReadResult {
+            number: refusal.number(),
+            line: refusal.line(),
+            policy: Policy::zeros(),
+        },
     }
 }
 

@@ -38,7 +38,7 @@ pub fn line_refusal<'a>(
     before: Key,
     line: Line,
     n: u32,
-) -> Refusal
+) -> Result<(), Refusal>
     requires segments_le_segments { segments ≤ single.segments }
     requires barred { Barred save.now partitions barred }
     requires ended_by { EndedBy base.now size.now segments ended }
@@ -55,18 +55,18 @@ pub fn line_refusal<'a>(
         line }
 {
     if is_bad(line) {
-        return Refusal::Malformed(n);
+        return Err(Refusal::Malformed(n));
     }
     if out_of_order(before, segments, partitions, line) {
-        return Refusal::OutOfOrder(n);
+        return Err(Refusal::OutOfOrder(n));
     }
     if out_of_range(segments, partitions, slots, line) {
-        return Refusal::OutOfRange(n);
+        return Err(Refusal::OutOfRange(n));
     }
     if clashes(
         segments, partitions, base, size, code, save, barred, ended, line,
     ) {
-        return Refusal::Clash(n);
+        return Err(Refusal::Clash(n));
     }
-    Refusal::Accepted
+    Ok(())
 }

@@ -124,8 +124,7 @@ fn show_stand(rt: &impl Print, stand: Stand, line: u32) -> io::Result<()> {
 // Obeys the lines of a block, from the line after its fence on, under the policy that the text `base` says, that of
 // zeros where it is refused.
 pub(crate) fn try_lines(rt: &impl Print, base: &[u8], block: &[u8], fence: u32) -> io::Result<()> {
-    let reading = reader::read(base);
-    let policy = reading.policy;
+    let policy = reader::read(base).unwrap_or(Policy::zeros());
     let mut memory = [0u8; MEMORY];
     let mut stand = Stand {
         place: Place {

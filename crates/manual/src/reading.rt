@@ -1,5 +1,4 @@
 // A policy text, and the number and line that reading it must answer.
-use policy::Refusal;
 use script::{append, nth, number_in, part, same, show, show_number, word};
 use std::io;
 
@@ -10,25 +9,29 @@ pub struct Verdict {
     pub accepted: bool,
 }
 
-fn answer_to(text: &[u8], times: u32, out: &mut [u8]) -> Refusal {
+// The number and the line that reading a text answers, which are 0 where it is accepted.
+pub(crate) fn answer_to(text: &[u8]) -> (u32, u32) {
+    match reader::read(text) {
+        Ok(_) => (0, 0),
+        Err(refusal) => (refusal.number(), refusal.line()),
+    }
+}
+
+fn answer_to_repeated(text: &[u8], times: u32, out: &mut [u8]) -> (u32, u32) {
     let mut end = 0;
     let mut left = times;
     while 0 < left {
         end = append(text, out, end);
         left -= 1;
     }
-    let reading = reader::read(part(out, 0, end));
-    let refusal = reading.refusal;
-    refusal
+    answer_to(part(out, 0, end))
 }
 
 // Compares what reading a text answers, repeated so many times, with the k-th word of the block's first line and the
 // next, which are its last.
 fn compare(rt: &impl Print, header: &[u8], k: u32, text: &[u8], times: u32) -> io::Result<Verdict> {
     let mut out = [0u8; 20000];
-    let refusal = answer_to(text, times, &mut out);
-    let number = reader::number_of(refusal);
-    let line = reader::line_number_of(refusal);
+    let (number, line) = answer_to_repeated(text, times, &mut out);
     let n = number_in(header, k);
     let l = number_in(header, k.wrapping_add(1));
     show_number(rt, b"expected ", n)?;

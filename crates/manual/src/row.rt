@@ -1,4 +1,5 @@
 // Rows about a text in which one line is another, is left out or is put in.
+use crate::reading::answer_to;
 use script::{append, find, nth, number_in, part, past};
 
 // A line up to its comment, without the spaces at its end.
@@ -27,11 +28,9 @@ pub(crate) fn is_answered(text: &[u8], row: &[u8]) -> bool {
     let before = append(part(text, 0, from), &mut out, 0);
     let end = append(part(row, nth(row, 3, b' '), row.len()), &mut out, before);
     let n = append(part(text, to, text.len()), &mut out, end);
-    let reading = reader::read(&out[..n]);
-    let refusal = reading.refusal;
-    let named = reader::line_number_of(refusal);
+    let (answered, named) = answer_to(&out[..n]);
     let whole = (number < 2) | (5 < number);
-    (reader::number_of(refusal) == number) & (((named == line) & !whole) | ((named == 0) & whole))
+    (answered == number) & (((named == line) & !whole) | ((named == 0) & whole))
 }
 
 // Rows `without LINE NUMBER NAMED` and `with LINE NUMBER NAMED TEXT`: where a text lacks that line, or has TEXT before it,
@@ -53,8 +52,6 @@ pub(crate) fn is_changed(text: &[u8], row: &[u8], lacks: bool) -> bool {
     let line_end = append(part(row, nth(row, 4, b' '), row.len()), &mut out, before);
     let end = append(part(b"\n", 0, ends), &mut out, line_end);
     let n = append(part(text, to, text.len()), &mut out, end);
-    let reading = reader::read(&out[..n]);
-    let refusal = reading.refusal;
-    let named = reader::line_number_of(refusal);
-    (reader::number_of(refusal) == number_in(row, 2)) & (named == number_in(row, 3))
+    let (answered, named) = answer_to(&out[..n]);
+    (answered == number_in(row, 2)) & (named == number_in(row, 3))
 }

@@ -1,20 +1,20 @@
 -- A sound record passes the test: the record of zeros has what the test asks of each entry, each accepted line keeps that, and the
--- last answer, which is Accepted too, adds the rules for the whole.
+-- last answer, which accepts too, adds the rules for the whole.
 use Prim.Native.Nat.{ℕ, ◌+◌}
 use mathlib.Core.Path.{◌≡◌, refl, sym, ◌∙◌, ap}
 use mathlib.Core.Bool.{Bool, true, false, cond, true≢false}
 use mathlib.Core.List.{List, [], ◌∷◌}
+use Rattle.std.specs.Prelude.{Ok, Err}
 use Rattle.text.specs.Lines.{lines_of}
 use Rattle.text.specs.declared.line.Line.{Line}
 use Rattle.text.specs.declared.line.Line.TheVariants.{Bad, Segment, Partition, Right, Flow, Slot}
 use Rattle.policy.specs.declared.record.Key.{Key}
-use Rattle.policy.specs.declared.record.Refusal.{Refusal}
-use Rattle.policy.specs.declared.record.Refusal.TheVariants.{Accepted, TooLong}
+use Rattle.policy.specs.declared.record.Refusal.TheVariants.{TooLong}
 use Rattle.policy.specs.Limits.{Limits}
 use Rattle.policy.specs.View.{View}
 use Rattle.policy.specs.Tables.{Tables, zeros, view_of}
 use Rattle.policy.specs.Draft.{Draft, added, begun, after}
-use Rattle.policy.specs.Refusals.{is_accepted}
+use Rattle.policy.specs.Refusals.{Verdict, is_accepted}
 use Rattle.policy.specs.Read.{Answer, too_long, is_bad, line_rules, line_refusal, whole_refusal, answer, read_lines, read_lines_by, read_by}
 use Rattle.policy.specs.Sound.{Sound, sound_of}
 use Rattle.policy.specs.Lawful.{Lawful}
@@ -69,10 +69,10 @@ module _ (limits : Limits) where
       )
 
   abbrev Accepts : Answer → Tables → Type 0
-  Accepts r t = r ≡ record { refusal = Accepted; tables = t }
+  Accepts r t = r ≡ record { refusal = Ok tt; tables = t }
 
-  -- the answer of a refusal is not Accepted
-  refused : (r : Refusal) (q t : Tables) → is_accepted r ≡ false → Accepts (answer limits r q) t → ⊥
+  -- the answer of a refusal accepts no text
+  refused : (r : Verdict) (q t : Tables) → is_accepted r ≡ false → Accepts (answer limits r q) t → ⊥
   refused r q t h e = true≢false (sym (ap (λ (x : Answer). is_accepted x.refusal) e) ∙ h)
 
   module _ (t : Tables) where
@@ -89,7 +89,7 @@ module _ (limits : Limits) where
     lines_kept [] n d k e = last_kept d.tables d.before.kind k e
     lines_kept (line ∷ lines) n d k e = go (is_accepted refusal) refl e (λ k. lines_kept lines (n + 1) (after d line) k)
       where
-        refusal : Refusal
+        refusal : Verdict
         refusal = line_refusal limits n d.before (view_of d.tables) line
 
         rest : Answer
@@ -107,9 +107,9 @@ module _ (limits : Limits) where
       lines : List Line
       lines = lines_of s.text
 
-      go : (b : Bool) → Accepts (cond b (answer limits TooLong (zeros limits)) (read_lines limits 1 (begun limits) lines)) t →
+      go : (b : Bool) → Accepts (cond b (answer limits (Err TooLong) (zeros limits)) (read_lines limits 1 (begun limits) lines)) t →
           sound_of limits t ≡ true
-      go true e = absurd (refused TooLong (zeros limits) t refl e)
+      go true e = absurd (refused (Err TooLong) (zeros limits) t refl e)
       go false e = lines_kept t lines 1 (begun limits) (kept_none limits) e
 
   pub sound_lawful : (t : Tables) → Sound limits t → Lawful limits (view_of t)

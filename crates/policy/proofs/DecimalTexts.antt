@@ -6,22 +6,22 @@ use mathlib.Core.Path.{◌≡◌, refl, sym, ◌∙◌, ap}
 use mathlib.Core.Bool.{Bool, true, false, cond, true≢false}
 use mathlib.Core.List.{List, [], ◌∷◌}
 use native.Mathlib.Omega.{arith}
+use Rattle.std.specs.Prelude.{Ok, Err}
 use Rattle.text.specs.DecimalTexts.{is_decimal}
 use Rattle.text.specs.Lines.{lines_by}
 use Rattle.text.specs.Number.{decimal, number}
 use Rattle.text.specs.declared.line.Line.{Line}
 use Rattle.text.proofs.Lines.{Both, Kept, decimal_lines, lines_kept}
 use Rattle.policy.specs.declared.record.Key.{Key}
-use Rattle.policy.specs.declared.record.Refusal.{Refusal}
-use Rattle.policy.specs.declared.record.Refusal.TheVariants.{Accepted, TooLong, Malformed}
+use Rattle.policy.specs.declared.record.Refusal.TheVariants.{TooLong, Malformed}
 use Rattle.policy.specs.Limits.{Limits}
 use Rattle.policy.specs.View.{View}
 use Rattle.policy.specs.Tables.{Tables, zeros, view_of}
 use Rattle.policy.specs.Draft.{Draft, begun, after}
-use Rattle.policy.specs.Refusals.{is_accepted, number_of}
+use Rattle.policy.specs.Refusals.{Verdict, is_accepted, number_of}
 use Rattle.policy.specs.Read.{Answer, too_long, is_bad, line_refusal, answer, read_lines_by, read_by}
 
-module _ (whole : View → Refusal) (limits : Limits) where
+module _ (whole : View → Verdict) (limits : Limits) where
   -- Refusal, line and record.
   pub decimal_texts :
       (text : List ℕ) → is_decimal text ≡ true → read_by decimal whole limits text ≡ read_by number whole limits text
@@ -32,7 +32,7 @@ module _ (whole : View → Refusal) (limits : Limits) where
   RefusedBy2 r = number_of r.refusal ≡ 2
 
   bad_refused :
-      (n : ℕ) (before : Key) (v : View) (line : Line) → is_bad line ≡ true → line_refusal limits n before v line ≡ Malformed n
+      (n : ℕ) (before : Key) (v : View) (line : Line) → is_bad line ≡ true → line_refusal limits n before v line ≡ Err (Malformed n)
   unfolding line_refusal
   bad_refused n before v line e = rw e
 
@@ -48,7 +48,7 @@ module _ (whole : View → Refusal) (limits : Limits) where
       rest : List Line → Answer
       rest lines = read_lines_by whole limits (n + 1) (after d l) lines
 
-      refusal : Refusal
+      refusal : Verdict
       refusal = line_refusal limits n d.before (view_of d.tables) l
 
       none : Answer
@@ -78,7 +78,7 @@ module _ (whole : View → Refusal) (limits : Limits) where
       rest lines = read_lines_by whole limits 1 (begun limits) lines
 
       long : Answer
-      long = answer limits TooLong (zeros limits)
+      long = answer limits (Err TooLong) (zeros limits)
 
       go :
           (b : Bool) → (RefusedBy2 (cond b long (rest (lines_by decimal text))) → ⊥)
@@ -88,8 +88,8 @@ module _ (whole : View → Refusal) (limits : Limits) where
 
   -- Every text that was accepted is accepted, with the same record.
   pub accepted_kept :
-      (text : List ℕ) (t : Tables) → read_by decimal whole limits text ≡ record { refusal = Accepted; tables = t }
-      → read_by number whole limits text ≡ record { refusal = Accepted; tables = t }
+      (text : List ℕ) (t : Tables) → read_by decimal whole limits text ≡ record { refusal = Ok tt; tables = t }
+      → read_by number whole limits text ≡ record { refusal = Ok tt; tables = t }
   accepted_kept text t e =
       answers_kept text
       (λ z. absurd (let q : ◌≡◌ {A = ℕ} 0 2 = sym (ap (λ (r : Answer). number_of r.refusal) e) ∙ z in omega arith))

@@ -4,15 +4,15 @@ use mathlib.Core.Path.{◌≡◌, refl, sym, ◌∙◌, ap}
 use mathlib.Core.Bool.{Bool, true, false, cond, ◌&&◌, true≢false}
 use mathlib.Core.List.{List, [], ◌∷◌}
 use mathlib.Core.Logic.{inl, inr}
+use Rattle.std.specs.Prelude.{Err}
 use Rattle.text.specs.Lines.{lines_of}
 use Rattle.text.specs.declared.line.Line.{Line}
-use Rattle.policy.specs.declared.record.Refusal.{Refusal}
 use Rattle.policy.specs.declared.record.Refusal.TheVariants.{TooLong, StraySource}
 use Rattle.policy.specs.Limits.{Limits}
 use Rattle.policy.specs.Whole.{stray_flow}
 use Rattle.policy.specs.Tables.{Tables, zeros, view_of}
 use Rattle.policy.specs.Draft.{Draft, begun, after}
-use Rattle.policy.specs.Refusals.{is_accepted}
+use Rattle.policy.specs.Refusals.{Verdict, is_accepted}
 use Rattle.policy.specs.Read.{Answer, answer, too_long, line_refusal, rules_of_01, whole_refusal, read_lines_by, read_by, read_of}
 use Rattle.policy.specs.Fewer.{refusal_of_01, read_before, stray_answer, then_stray, Fewer}
 use Rattle.policy.proofs.Laws.First.{first-last}
@@ -22,12 +22,12 @@ module _ (limits : Limits) where
       answer limits (whole_refusal (view_of t)) t ≡ then_stray limits (answer limits (refusal_of_01 (view_of t)) t)
   unfolding whole_refusal
   end_stray t =
-      ap (λ (r : Refusal). answer limits r t)
-      (first-last (rules_of_01 (view_of t)) (record { applies = stray_flow (view_of t); answer = StraySource }) refl)
+      ap (λ (r : Verdict). answer limits r t)
+      (first-last (rules_of_01 (view_of t)) (record { applies = stray_flow (view_of t); answer = Err StraySource }) refl)
       ∙ go (refusal_of_01 (view_of t)) (is_accepted (refusal_of_01 (view_of t))) (stray_flow (view_of t)) refl refl
     where
-      go : (r : Refusal) (b s : Bool) → is_accepted r ≡ b → stray_flow (view_of t) ≡ s →
-          answer limits (cond (is_accepted r && stray_flow (view_of t)) StraySource r) t ≡ then_stray limits (answer limits r t)
+      go : (r : Verdict) (b s : Bool) → is_accepted r ≡ b → stray_flow (view_of t) ≡ s →
+          answer limits (cond (is_accepted r && stray_flow (view_of t)) (Err StraySource) r) t ≡ then_stray limits (answer limits r t)
       go r false s e q = rw (e, e)
       go r true false e q = rw (e, q, e)
       go r true true e q = rw (e, q)
@@ -38,7 +38,7 @@ module _ (limits : Limits) where
   lines_stray [] n d = end_stray d.tables
   lines_stray (line ∷ lines) n d = go (is_accepted refusal) refl (lines_stray lines (n + 1) (after d line))
     where
-      refusal : Refusal
+      refusal : Verdict
       refusal = line_refusal limits n d.before (view_of d.tables) line
 
       now : Answer
@@ -60,8 +60,8 @@ module _ (limits : Limits) where
       rest = read_lines_by refusal_of_01 limits 1 (begun limits) (lines_of text)
 
       go : (b : Bool) →
-          cond b (answer limits TooLong (zeros limits)) (read_lines_by whole_refusal limits 1 (begun limits) (lines_of text))
-          ≡ then_stray limits (cond b (answer limits TooLong (zeros limits)) rest)
+          cond b (answer limits (Err TooLong) (zeros limits)) (read_lines_by whole_refusal limits 1 (begun limits) (lines_of text))
+          ≡ then_stray limits (cond b (answer limits (Err TooLong) (zeros limits)) rest)
       go true = refl
       go false = lines_stray (lines_of text) 1 (begun limits)
 

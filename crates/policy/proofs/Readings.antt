@@ -8,18 +8,18 @@ use native.Mathlib.Omega.{arith}
 use borrow.Author.Tests.{ltb-false}
 use lib.Dec.{eqb}
 use lib.ListN.{length}
+use Rattle.std.specs.Prelude.{Err}
 use Rattle.text.specs.Cut.{cut, onto, line_end}
 use Rattle.text.specs.Lines.{lines_of, lines_by, lines_of_pieces}
 use Rattle.text.specs.Number.{number}
 use Rattle.text.specs.declared.line.Line.{Line}
 use Rattle.policy.specs.declared.record.Key.{Key}
-use Rattle.policy.specs.declared.record.Refusal.{Refusal}
 use Rattle.policy.specs.declared.record.Refusal.TheVariants.{TooLong}
 use Rattle.policy.specs.Limits.{Limits}
 use Rattle.policy.specs.View.{View}
 use Rattle.policy.specs.Tables.{zeros, view_of}
 use Rattle.policy.specs.Draft.{Draft, begun, after}
-use Rattle.policy.specs.Refusals.{is_accepted, line_number_of}
+use Rattle.policy.specs.Refusals.{Verdict, is_accepted, line_number_of}
 use Rattle.policy.specs.Read.{too_long, line_rules, line_refusal, whole_rules, whole_refusal, Answer, answer, read_lines, read_lines_by, read_by, read_of}
 use Rattle.policy.specs.Sound.{Sound}
 use Rattle.policy.proofs.Laws.First.{first-has, is_accepted_lem}
@@ -73,7 +73,7 @@ module _ (limits : Limits) where
       }
   answered (line ∷ lines) n d = go (is_accepted refusal) refl (answered lines (n + 1) (after d line))
     where
-      refusal : Refusal
+      refusal : Verdict
       refusal = line_refusal limits n d.before (view_of d.tables) line
 
       rest : Answer
@@ -89,7 +89,7 @@ module _ (limits : Limits) where
   text_answered text = go (too_long limits text) refl
     where
       go : (b : Bool) → too_long limits text ≡ b →
-          Answered limits (limits.text + 2) (cond b (answer limits TooLong (zeros limits)) (read_lines limits 1 (begun limits) (lines_of text)))
+          Answered limits (limits.text + 2) (cond b (answer limits (Err TooLong) (zeros limits)) (read_lines limits 1 (begun limits) (lines_of text)))
       go true e = record { named = omega arith; empty = λ h. refl }
       go false e =
           let h = answered (lines_of text) 1 (begun limits) in
@@ -105,4 +105,4 @@ module _ (limits : Limits) where
   pub accepted_sound : (text : List ℕ) → is_accepted (read_of limits text).refusal ≡ true → Sound limits (read_of limits text).tables
   accepted_sound text h =
       let t = (read_of limits text).tables in
-      record { text = text; gives = ap (λ (r : Refusal). record { refusal = r; tables = t }) (is_accepted_lem (read_of limits text).refusal h) }
+      record { text = text; gives = ap (λ (r : Verdict). record { refusal = r; tables = t }) (is_accepted_lem (read_of limits text).refusal h) }

@@ -1,18 +1,17 @@
 -- 02, S-5: what rule 16 changes in reading. It is compared with reading by the rules of document 01 for the whole.
-use Rattle.std.specs.Prelude.{ℕ, ◌≡◌, true, false, cond, ◌&&◌, List, ◌⊎◌}
+use Rattle.std.specs.Prelude.{ℕ, ◌≡◌, true, false, cond, ◌&&◌, List, Ok, Err, ◌⊎◌}
 use Rattle.text.specs.Number.{number}
-use Rattle.policy.specs.declared.record.Refusal.{Refusal}
-use Rattle.policy.specs.declared.record.Refusal.TheVariants.{Accepted, StraySource}
+use Rattle.policy.specs.declared.record.Refusal.TheVariants.{StraySource}
 use Rattle.policy.specs.Limits.{Limits}
 use Rattle.policy.specs.View.{View}
 use Rattle.policy.specs.Whole.{stray_flow}
 use Rattle.policy.specs.Tables.{zeros, view_of}
 use Rattle.policy.specs.First.{first_of}
-use Rattle.policy.specs.Refusals.{is_accepted}
+use Rattle.policy.specs.Refusals.{Verdict, is_accepted}
 use Rattle.policy.specs.Read.{Answer, answer, rules_of_01, read_by}
 
-abbrev pub refusal_of_01 : View → Refusal
-refusal_of_01 v = first_of Accepted (rules_of_01 v)
+abbrev pub refusal_of_01 : View → Verdict
+refusal_of_01 v = first_of (Ok tt) (rules_of_01 v)
 
 -- Reading as it was, without 16.
 abbrev pub read_before : Limits → List ℕ → Answer
@@ -20,7 +19,7 @@ read_before = read_by number refusal_of_01
 
 -- "16 .. line 0"
 abbrev pub stray_answer : Limits → Answer
-stray_answer limits = answer limits StraySource (zeros limits)
+stray_answer limits = answer limits (Err StraySource) (zeros limits)
 
 -- 16 asked of what the rules before it accept, and of nothing else.
 abbrev pub then_stray : Limits → Answer → Answer

@@ -1,7 +1,9 @@
 -- The record of the single head, and what reading a text answers with it, as the definitions know them.
+use Rattle.std.specs.Prelude.{Result, Ok, Err}
 use Rattle.policy.specs.declared.record.Policy.{Policy}
-use Rattle.policy.specs.declared.record.Reading.{Reading}
-use Rattle.policy.specs.Tables.{Tables}
+use Rattle.policy.specs.declared.record.Refusal.{Refusal}
+use Rattle.policy.specs.Limits.{single}
+use Rattle.policy.specs.Tables.{Tables, zeros}
 use Rattle.policy.specs.Read.{Answer}
 
 abbrev pub tables_of : Policy → Tables
@@ -15,5 +17,7 @@ tables_of p =
       unused = p.unused;
     }
 
-abbrev pub answer_of : Reading → Answer
-answer_of r = record { refusal = r.refusal; tables = tables_of r.policy }
+-- A refused text comes with the record of zeros.
+abbrev pub answer_of : Result Policy Refusal → Answer
+answer_of (Ok policy) = record { refusal = Ok tt; tables = tables_of policy }
+answer_of (Err refusal) = record { refusal = Err refusal; tables = zeros single }

@@ -1,8 +1,7 @@
 -- 01, "Memory and policy": "A record is sound if some accepted text gives it."
-use Rattle.std.specs.Prelude.{ℕ, ◌^◌, ◌≡◌, Bool, true, ◌&&◌, ◌||◌, not, List, [], ◌∷◌, length, drop, eqb, leb, ltb}
+use Rattle.std.specs.Prelude.{ℕ, ◌^◌, ◌≡◌, Bool, true, ◌&&◌, ◌||◌, not, List, [], ◌∷◌, length, drop, eqb, leb, ltb, Ok}
 use Rattle.text.specs.declared.line.Line.{Line}
 use Rattle.text.specs.declared.line.Line.TheVariants.{Segment, Partition, Right, Flow, Slot}
-use Rattle.policy.specs.declared.record.Refusal.TheVariants.{Accepted}
 use Rattle.policy.specs.Below.{each_below}
 use Rattle.policy.specs.Limits.{Limits}
 use Rattle.policy.specs.Modes.{mode_in}
@@ -16,7 +15,7 @@ use Rattle.policy.specs.Read.{read_of, whole_refusal}
 -- "some accepted text gives it"
 pub record Sound (limits : Limits) (tables : Tables) : Type 0 where
   pub text : List ℕ
-  pub gives : read_of limits text ≡ record { refusal = Accepted; tables = tables }
+  pub gives : read_of limits text ≡ record { refusal = Ok tt; tables = tables }
 
 -- The test that decides it: each entry stands where a line that rules 4 and 5 let pass, after those before it, would
 -- put it, the unused entries are 0, and the whole passes 6, 7, 8 and 16. That the two are the same is proved: `accepted`

@@ -1,5 +1,5 @@
-// The policy record, what reading a policy text and a question about a policy answer, and in specs/ the rules of both. No code that runs: the
-// crates above prove theirs against these definitions.
+// The policy record, why a policy text is refused, what a question about a policy answers, and in specs/ the rules of both. No code that reads or
+// tests a policy: the crates above prove theirs against these definitions.
 #![tactic(auto)]
 
 mod limits;
@@ -8,4 +8,4 @@ mod record;
 pub use limits::{
     LONGEST_SEGMENT, MEMORY, MOST_TICKS, PARTITIONS, SAVE_SIZE, SEGMENTS, SLOTS, TEXT,
 };
-pub use record::{Asked, Key, Policy, Reading, Refusal};
+pub use record::{Asked, Key, Policy, Refusal};

@@ -23,6 +23,34 @@ pub struct Policy {
     pub sources: [u32; 32],
 }
 
+impl Policy {
+    ghost use Rattle.std.specs.Prelude.{◌≡◌};
+    ghost use Rattle.policy.specs.Limits.{single};
+    ghost use Rattle.policy.specs.Record.{tables_of};
+    ghost use Rattle.policy.specs.Tables.{zeros};
+
+    // The record before the first line, and that of a refused text.
+    pub fn zeros() -> Policy
+        ensures { tables_of result ≡ zeros single }
+    {
+        Policy {
+            segments: 0,
+            partitions: 0,
+            slots: 0,
+            unused: 0,
+            base: [0; 32],
+            size: [0; 32],
+            code: [0; 8],
+            save: [0; 8],
+            owner: [0; 32],
+            ticks: [0; 32],
+            reads: [0; 8],
+            writes: [0; 8],
+            sources: [0; 32],
+        }
+    }
+}
+
 // Where a line stands in the order of lines: its kind, and its id or pair.
 #[derive(Clone, Copy)]
 pub struct Key {
@@ -34,7 +62,6 @@ pub struct Key {
 // Why a text is refused, with the number of the line where one is named.
 #[derive(Clone, Copy)]
 pub enum Refusal {
-    Accepted,
     TooLong,
     Malformed(u32),
     OutOfOrder(u32),
@@ -46,11 +73,38 @@ pub enum Refusal {
     StraySource,
 }
 
-// What reading a text answers; the record is that of zeros where the text is refused.
-#[derive(Clone, Copy)]
-pub struct Reading {
-    pub refusal: Refusal,
-    pub policy: Policy,
+impl Refusal {
+    ghost use Rattle.std.specs.Prelude.{◌≡◌, Err};
+    ghost use Rattle.policy.specs.Refusals.{line_number_of, number_of};
+
+    pub fn number(self) -> u32
+        ensures { result ≡ number_of (Err self) }
+    {
+        match self {
+            Refusal::TooLong => 1,
+            Refusal::Malformed(_) => 2,
+            Refusal::OutOfOrder(_) => 3,
+            Refusal::OutOfRange(_) => 4,
+            Refusal::Clash(_) => 5,
+            Refusal::Incomplete => 6,
+            Refusal::CodeUnreadable => 7,
+            Refusal::FlowMissing => 8,
+            Refusal::StraySource => 16,
+        }
+    }
+
+    // The line that it names, and 0 where it names none.
+    pub fn line(self) -> u32
+        ensures { result ≡ line_number_of (Err self) }
+    {
+        match self {
+            Refusal::Malformed(line) => line,
+            Refusal::OutOfOrder(line) => line,
+            Refusal::OutOfRange(line) => line,
+            Refusal::Clash(line) => line,
+            _ => 0,
+        }
+    }
 }
 
 // What a question about a policy answers: that it was answered, or why it was refused.

@@ -10,7 +10,7 @@ use Rattle.policy.specs.Limits.{Limits, single}
 use Rattle.policy.specs.Tables.{Tables}
 use Rattle.policy.specs.Read.{read_by, read_of}
 use Rattle.policy.specs.Sound.{Sound, sound_of}
-use Rattle.policy.specs.declared.record.Refusal.TheVariants.{Accepted}
+use Rattle.std.specs.Prelude.{Ok}
 use Rattle.printer.specs.Printer.{lines_of_record, text_of, text_bound}
 use Rattle.printer.specs.Roomy.{Roomy}
 use Rattle.printer.proofs.Laws.Lines.{lines_back}
@@ -23,7 +23,7 @@ pub printed_bound : (limits : Limits) (t : Tables) → sound_of limits t ≡ tru
 printed_bound limits t h = text_short limits t (passed limits t h)
 
 module _ (limits : Limits) (t : Tables) (r : Roomy limits) (h : sound_of limits t ≡ true) where
-  pub printed_gives : read_of limits (text_of limits t) ≡ record { refusal = Accepted; tables = t }
+  pub printed_gives : read_of limits (text_of limits t) ≡ record { refusal = Ok tt; tables = t }
   unfolding read_by text_of
   printed_gives =
       rw (

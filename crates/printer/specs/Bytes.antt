@@ -1,11 +1,10 @@
 -- 01, "The policy text": a text is bytes. A definition's text is a list of numbers, so it is said here of the printed one, and
 -- with it a sound record has an accepted text that can be written.
-use Rattle.std.specs.Prelude.{ℕ, ◌≤◌, ◌<◌, ◌≡◌, ◌↔◌, List, length, get_or}
+use Rattle.std.specs.Prelude.{ℕ, ◌≤◌, ◌<◌, ◌≡◌, ◌↔◌, List, length, get_or, Ok}
 use Rattle.policy.specs.Limits.{Limits, single}
 use Rattle.policy.specs.Tables.{Tables}
 use Rattle.policy.specs.Read.{read_of}
 use Rattle.policy.specs.Sound.{Sound}
-use Rattle.policy.specs.declared.record.Refusal.TheVariants.{Accepted}
 use Rattle.printer.specs.Printer.{text_of}
 use Rattle.printer.specs.Roomy.{Roomy}
 
@@ -20,7 +19,7 @@ PrintedBytes = (limits : Limits) (tables : Tables) → Roomy limits → Sound li
 -- An accepted text of bytes, at most so many, that gives the record.
 pub record ByteText (limits : Limits) (tables : Tables) (most : ℕ) : Type 0 where
   pub text : List ℕ
-  pub gives : read_of limits text ≡ record { refusal = Accepted; tables = tables }
+  pub gives : read_of limits text ≡ record { refusal = Ok tt; tables = tables }
   pub bytes : AreBytes text
   pub short : length text ≤ most
 

@@ -8,7 +8,6 @@ ghost use Rattle.writing.specs.Written.{Written};
 ghost use Rattle.reaching.specs.Question.{answer_line, question_of, reach_line, yes_end};
 
 use crate::words::words_in;
-use linerules::is_accepted;
 use policy::Policy;
 use reach::{asked_number, can_reach};
 use report::put_refused;
@@ -62,10 +61,8 @@ pub fn answer_on(text: &[u8], words: &[u8], out: &mut [u8; 3424]) -> usize
     if !asked.asks {
         return put_word(out, 0, b"usage: policyreach [FROM TO] < POLICY\n");
     }
-    let reading = reader::read(text);
-    let refusal = reading.refusal;
-    if !is_accepted(refusal) {
-        return put_refused(refusal, out);
+    match reader::read(text) {
+        Ok(policy) => put_answer(policy, asked.from, asked.to, out),
+        Err(refusal) => put_refused(refusal, out),
     }
-    put_answer(reading.policy, asked.from, asked.to, out)
 }

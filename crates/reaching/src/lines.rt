@@ -10,7 +10,6 @@ ghost use Rattle.writing.specs.Written.{Written};
 ghost use Rattle.reaching.specs.Report.{reach_report_of, segment_line, segment_lines};
 
 use bits::has_bit;
-use linerules::is_accepted;
 use reach::reach;
 use report::put_refused;
 use writing::{put_byte, put_field, put_word};
@@ -74,12 +73,11 @@ pub fn report_on(text: &[u8], out: &mut [u8; 3424]) -> usize
         × (result ≤ 3424)
         × (out.new ≡ sets out.old 0 (reach_report_of single text.now)) }
 {
-    let reading = reader::read(text);
-    let refusal = reading.refusal;
-    if !is_accepted(refusal) {
-        return put_refused(refusal, out);
+    match reader::read(text) {
+        Ok(policy) => {
+            let report = reach(policy);
+            put_lines(out, &report.rows, policy.segments)
+        }
+        Err(refusal) => put_refused(refusal, out),
     }
-    let policy = reading.policy;
-    let report = reach(policy);
-    put_lines(out, &report.rows, policy.segments)
 }

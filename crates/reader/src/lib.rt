@@ -6,16 +6,15 @@ ghost use Rattle.policy.specs.Limits.{single};
 ghost use Rattle.policy.specs.Read.{read_of};
 ghost use Rattle.policy.specs.Record.{answer_of};
 
-pub use linerules::{line_number_of, number_of};
-use policy::{Reading, Refusal, TEXT};
-use readlines::{read_lines, refused};
+use policy::{Policy, Refusal, TEXT};
+use readlines::read_lines;
 
-// For every text: the first refusal in document 01's order with the record of zeros, or the record.
-pub fn read(text: &[u8]) -> Reading
+// For every text: the record, or the first refusal in document 01's order.
+pub fn read(text: &[u8]) -> Result<Policy, Refusal>
     ensures { answer_of result ≡ read_of single text.now }
 {
     if TEXT < text.len() {
-        return refused(Refusal::TooLong);
+        return Err(Refusal::TooLong);
     }
     read_lines(text)
 }

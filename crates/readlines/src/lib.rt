@@ -4,4 +4,4 @@
 mod lines;
 mod rights;
 
-pub use lines::{read_lines, refused};
+pub use lines::read_lines;

@@ -3,26 +3,15 @@ ghost use Rattle.std.specs.Prelude.{◌+◌, ◌<◌, ◌≤◌, ◌≡◌, leng
 ghost use Rattle.text.specs.Lines.{lines_of};
 ghost use Rattle.policy.specs.Limits.{single};
 ghost use Rattle.policy.specs.Record.{answer_of};
-ghost use Rattle.policy.specs.Tables.{zeros};
 ghost use Rattle.policy.specs.Draft.{begun};
-ghost use Rattle.policy.specs.Read.{answer, read_lines};
+ghost use Rattle.policy.specs.Read.{read_lines};
 
 use crate::rights::{with_read, with_write};
 use bits::with_low_bit;
-use linerules::{is_accepted, key_of, line_refusal, zeros};
-use policy::{Key, Policy, Reading, Refusal};
+use linerules::{key_of, line_refusal};
+use policy::{Key, Policy, Refusal};
 use text::{Cursor, Line};
 use wholerules::record_refusal;
-
-// A refusal comes with the record of zeros.
-pub fn refused(refusal: Refusal) -> Reading
-    ensures { answer_of result ≡ answer single refusal (zeros single) }
-{
-    Reading {
-        refusal,
-        policy: zeros(),
-    }
-}
 
 // Where the segments have ended, with one more.
 fn end_after(ended: u32, base: u32, size: u32) -> u32
@@ -35,11 +24,11 @@ fn end_after(ended: u32, base: u32, size: u32) -> u32
 
 // The answer for a text that is not too long. What a line adds is stored in the loop itself: a record that is handed by
 // value to a function and back is copied for each line.
-pub fn read_lines(text: &[u8]) -> Reading
+pub fn read_lines(text: &[u8]) -> Result<Policy, Refusal>
     requires { length text.now ≤ single.text }
     ensures { answer_of result ≡ read_lines single 1 (begun single) (lines_of text.now) }
 {
-    let mut policy = zeros();
+    let mut policy = Policy::zeros();
     let mut before = Key {
         kind: 0,
         first: 0,
@@ -53,7 +42,7 @@ pub fn read_lines(text: &[u8]) -> Reading
         let n = c.line;
         let read = lexer::line_from(text, c.at, n);
         let line = read.line;
-        let refusal = line_refusal(
+        line_refusal(
             policy.segments,
             policy.partitions,
             policy.slots,
@@ -66,10 +55,7 @@ pub fn read_lines(text: &[u8]) -> Reading
             before,
             line,
             n,
-        );
-        if !is_accepted(refusal) {
-            return refused(refusal);
-        }
+        )?;
         match line {
             Line::Bad => {}
             Line::Segment { id, base, size } => {
@@ -107,7 +93,7 @@ pub fn read_lines(text: &[u8]) -> Reading
         before = key_of(line);
         c = read.next;
     }
-    let refusal = record_refusal(
+    record_refusal(
         policy.segments,
         policy.partitions,
         policy.slots,
@@ -116,9 +102,6 @@ pub fn read_lines(text: &[u8]) -> Reading
         &policy.reads,
         &policy.writes,
         &policy.sources,
-    );
-    if is_accepted(refusal) {
-        return Reading { refusal, policy };
-    }
-    refused(refusal)
+    )?;
+    Ok(policy)
 }

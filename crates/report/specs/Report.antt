@@ -3,13 +3,12 @@ use Rattle.std.specs.Prelude.{ℕ, zero, suc, cond, List, [], ◌∷◌, ◌++�
 use Rattle.bits.specs.Masks.{mask_of}
 use Rattle.text.specs.Bytes.{bytes_of}
 use Rattle.writing.specs.Row.{numbers}
-use Rattle.policy.specs.declared.record.Refusal.{Refusal}
 use Rattle.policy.specs.Limits.{Limits}
 use Rattle.policy.specs.View.{View}
 use Rattle.policy.specs.Access.{readable, writable}
 use Rattle.policy.specs.Schedule.{round_ticks}
 use Rattle.policy.specs.Tables.{view_of}
-use Rattle.policy.specs.Refusals.{number_of, line_number_of, is_accepted}
+use Rattle.policy.specs.Refusals.{Verdict, number_of, line_number_of, is_accepted}
 use Rattle.policy.specs.Read.{Answer, read_of}
 
 -- "the masks of partitions p with the segment in R(p) and in W(p), bit p worth 2 to the power p"
@@ -32,11 +31,11 @@ unfoldable pub accepted_row : View → List ℕ
 accepted_row v = bytes_of "accepted" ++ numbers (v.partitions ∷ v.segments ∷ v.slots ∷ round_ticks v ∷ [])
 
 -- "A refused text gives one line: refused, number, line."
-unfoldable pub refused_row : Refusal → List ℕ
+unfoldable pub refused_row : Verdict → List ℕ
 refused_row refusal = bytes_of "refused" ++ numbers (number_of refusal ∷ line_number_of refusal ∷ [])
 
 -- Of a refusal and a view, whatever record gives it.
-unfoldable pub report_with : Refusal → View → List ℕ
+unfoldable pub report_with : Verdict → View → List ℕ
 report_with refusal v = cond (is_accepted refusal) (accepted_row v ++ segment_rows v v.segments) (refused_row refusal)
 
 abbrev pub report_of_reading : Answer → List ℕ

@@ -1,5 +1,5 @@
 // The whole report: of an accepted text its first row and a row for each segment, of a refused text one row.
-ghost use Rattle.std.specs.Prelude.{◌≡◌, ◌≤◌, ◌<◌, length};
+ghost use Rattle.std.specs.Prelude.{◌≡◌, ◌≤◌, ◌<◌, length, Err};
 ghost use Rattle.std.proofs.lemmas.List.Edits.{sets};
 ghost use Rattle.policy.specs.Tables.{view_of};
 ghost use Rattle.policy.specs.Refusals.{line_number_of};
@@ -11,8 +11,7 @@ ghost use Rattle.writing.specs.Written.{Written};
 
 use crate::masks::masks_of;
 use bits::widen;
-use linerules::{is_accepted, line_number_of, number_of};
-use policy::{Policy, Reading, Refusal};
+use policy::{Policy, Refusal};
 use schedule::round_ticks;
 use writing::put_row;
 
@@ -80,24 +79,24 @@ fn put_segments(policy: Policy, out: &mut [u8; 640], at: usize) -> usize
 
 // At most 17 bytes.
 pub fn put_refused(refusal: Refusal, out: &mut [u8]) -> usize
-    requires { (line_number_of refusal < 100000) × (17 ≤ length out.old) }
-    ensures { Written out.old 0 (refused_row refusal) out.new result }
+    requires { (line_number_of (Err refusal) < 100000) × (17 ≤ length out.old) }
+    ensures { Written out.old 0 (refused_row (Err refusal)) out.new result }
 {
-    let row = [number_of(refusal), line_number_of(refusal)];
+    let row = [refusal.number(), refusal.line()];
     put_row(out, 0, b"refused", &row)
 }
 
 // The longest report has 23 + 32 * 19 = 631 bytes.
-pub fn write_report(reading: Reading, out: &mut [u8; 640]) -> usize
+pub fn write_report(reading: Result<Policy, Refusal>, out: &mut [u8; 640]) -> usize
     requires { Reportable (answer_of reading) }
     ensures { (result ≡ length (report_of_reading (answer_of reading)))
         × (out.new ≡ sets out.old 0 (report_of_reading (answer_of reading))) }
 {
-    let refusal = reading.refusal;
-    if is_accepted(refusal) {
-        let policy = reading.policy;
-        let next = put_accepted(policy, out);
-        return put_segments(policy, out, next);
+    match reading {
+        Ok(policy) => {
+            let next = put_accepted(policy, out);
+            put_segments(policy, out, next)
+        }
+        Err(refusal) => put_refused(refusal, out),
     }
-    put_refused(refusal, out)
 }

@@ -156,12 +156,14 @@ fn play(rt: &impl Print, file: &[u8], at: usize, memory: &mut [u8]) -> io::Resul
     let size = (number_in(header, 1) as usize).min(memory.len());
     let from = past(file, at, b'\n');
     let to = from + number_in(header, 2) as usize;
-    let reading = reader::read(part(file, from, to));
-    let refusal = reading.refusal;
+    let (number, policy) = match reader::read(part(file, from, to)) {
+        Ok(policy) => (0, policy),
+        Err(refusal) => (refusal.number(), Policy::zeros()),
+    };
     show(rt, name)?;
-    show_number(rt, b"\tpolicy\t", reader::number_of(refusal))?;
+    show_number(rt, b"\tpolicy\t", number)?;
     show(rt, b"\n")?;
-    steps(rt, file, to, name, &mut memory[..size], reading.policy)
+    steps(rt, file, to, name, &mut memory[..size], policy)
 }
 
 fn play_all(rt: &impl Print, file: &[u8]) -> io::Result<()> {

@@ -7,7 +7,6 @@ ghost use Rattle.policy.specs.Limits.{single};
 ghost use Rattle.writing.specs.Written.{Written};
 ghost use Rattle.sheeting.specs.Lines.{partition_lines, sheet_report_of};
 
-use linerules::is_accepted;
 use report::put_refused;
 use schedule::round_ticks;
 use sheet::sheet_of;
@@ -38,14 +37,13 @@ pub fn sheet_on(text: &[u8], out: &mut [u8; 204]) -> usize
         × (result ≤ 204)
         × (out.new ≡ sets out.old 0 (sheet_report_of single text.now)) }
 {
-    let reading = reader::read(text);
-    let refusal = reading.refusal;
-    if !is_accepted(refusal) {
-        return put_refused(refusal, out);
+    match reader::read(text) {
+        Ok(policy) => {
+            let sheet = sheet_of(policy);
+            let next = put_partitions(out, &sheet.ticks, &sheet.silence, policy.partitions);
+            let round = [round_ticks(&policy.ticks, policy.slots)];
+            put_row(out, next, b"round", &round)
+        }
+        Err(refusal) => put_refused(refusal, out),
     }
-    let policy = reading.policy;
-    let sheet = sheet_of(policy);
-    let next = put_partitions(out, &sheet.ticks, &sheet.silence, policy.partitions);
-    let round = [round_ticks(&policy.ticks, policy.slots)];
-    put_row(out, next, b"round", &round)
 }

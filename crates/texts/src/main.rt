@@ -10,11 +10,13 @@ fn read_case(rt: &impl Print, file: &[u8], at: usize) -> io::Result<usize> {
     let header = field(file, at, b'\n');
     let from = past(file, at, b'\n');
     let to = from + number_in(header, 1) as usize;
-    let reading = reader::read(part(file, from, to));
-    let refusal = reading.refusal;
+    let (number, line) = match reader::read(part(file, from, to)) {
+        Ok(_) => (0, 0),
+        Err(refusal) => (refusal.number(), refusal.line()),
+    };
     show(rt, word(header, 0))?;
-    show_number(rt, b"\t", reader::number_of(refusal))?;
-    show_number(rt, b"\t", reader::line_number_of(refusal))?;
+    show_number(rt, b"\t", number)?;
+    show_number(rt, b"\t", line)?;
     show(rt, b"\n")?;
     Ok(to)
 }

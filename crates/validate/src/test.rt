@@ -12,7 +12,6 @@ use crate::arrays::{partitions_unused, tables_hold};
 use crate::entries::{partitions_good, segments_good};
 use crate::rights::{flows_good, rights_good};
 use bits::widen;
-use linerules::is_accepted;
 use policy::{PARTITIONS, Policy, SEGMENTS, SLOTS};
 use wholerules::lent_refusal;
 
@@ -80,7 +79,7 @@ fn whole_passes<'a>(
     widen(writes, &mut wide_writes);
     let mut wide_sources: [u64; 32] = [0; 32];
     widen(sources, &mut wide_sources);
-    is_accepted(lent_refusal(
+    lent_refusal(
         counts.segments,
         counts.partitions,
         counts.slots,
@@ -89,7 +88,8 @@ fn whole_passes<'a>(
         &wide_reads,
         &wide_writes,
         &wide_sources,
-    ))
+    )
+    .is_ok()
 }
 
 // The test on lent arrays, which have the lengths of the record's types.

@@ -34,7 +34,7 @@ pub fn lent_refusal<'a>(
     reads: &'a [u64],
     writes: &'a [u64],
     sources: &'a [u64],
-) -> Refusal
+) -> Result<(), Refusal>
     requires segments_bound { (segments ≤ 64) × (partitions ≤ 12) × (segments ≤ length sources.now) }
     requires partitions_in_bounds { (partitions ≤ length code.now) × HasPartitions partitions save.now reads.now writes.now }
     ensures { result ≡ whole_refusal
@@ -42,19 +42,19 @@ pub fn lent_refusal<'a>(
         writes.now sources.now) }
 {
     if (segments == 0) | (partitions == 0) | (slots == 0) {
-        return Refusal::Incomplete;
+        return Err(Refusal::Incomplete);
     }
     if code_unreadable(code, reads, partitions) {
-        return Refusal::CodeUnreadable;
+        return Err(Refusal::CodeUnreadable);
     }
     let flows = look_at_flows(save, reads, writes, sources, segments, partitions);
     if flows.missing {
-        return Refusal::FlowMissing;
+        return Err(Refusal::FlowMissing);
     }
     if flows.stray {
-        return Refusal::StraySource;
+        return Err(Refusal::StraySource);
     }
-    Refusal::Accepted
+    Ok(())
 }
 
 // The same of the record's masks of 32 bits: as masks of 64 they are the same numbers.
@@ -67,7 +67,7 @@ pub fn record_refusal<'a>(
     reads: &'a [u32],
     writes: &'a [u32],
     sources: &'a [u32],
-) -> Refusal
+) -> Result<(), Refusal>
     requires segments_bound { (segments ≤ 32) × (partitions ≤ 8) }
     requires code_len { (length code.now ≡ 8) × (length save.now ≡ 8) }
     requires reads_len { (length reads.now ≡ 8) × (length writes.now ≡ 8) × (length sources.now ≡ 32) }

@@ -2,7 +2,7 @@
 -- for what it gives on the other, and there is no second record that does.
 use mathlib.Core.Path.{◌≡◌, sym, ◌∙◌, ap}
 use mathlib.Core.Logic.{◌↔◌}
-use Rattle.policy.specs.declared.record.Refusal.TheVariants.{Accepted}
+use Rattle.std.specs.Prelude.{Ok}
 use Rattle.policy.specs.Limits.{single}
 use Rattle.policy.specs.Tables.{Tables}
 use Rattle.policy.specs.Read.{Answer, read_of}
@@ -32,7 +32,7 @@ module _ (b : Bytes) (t : Tables) (bytes : AreBytes b) (masks : AreMasks t) (h :
   to_masks s =
       let same = same_text s.text in
       let now = read_of single s.text in
-      let e : now.refusal ≡ Accepted = sym same.refusal ∙ ap (λ (a : BytesAnswer). a.refusal) s.gives in
+      let e : now.refusal ≡ Ok tt = sym same.refusal ∙ ap (λ (a : BytesAnswer). a.refusal) s.gives in
       let given : Sound single now.tables = record { text = s.text; gives = rw (← e) } in
       let stands : StandsFor b now.tables = rw s.gives at same.stands in
       rw (masks_only b t now.tables masks (sound_masks now.tables given) h stands) given
@@ -41,7 +41,7 @@ module _ (b : Bytes) (t : Tables) (bytes : AreBytes b) (masks : AreMasks t) (h :
   to_bytes s =
       let same = same_text s.text in
       let old = read_bytes s.text in
-      let e : old.refusal ≡ Accepted = same.refusal ∙ ap (λ (a : Answer). a.refusal) s.gives in
+      let e : old.refusal ≡ Ok tt = same.refusal ∙ ap (λ (a : Answer). a.refusal) s.gives in
       let given : SoundBytes old.bytes = record { text = s.text; gives = rw (← e) } in
       let stands : StandsFor old.bytes t = rw s.gives at same.stands in
       rw (bytes_only b old.bytes t bytes same.bytes h stands) given

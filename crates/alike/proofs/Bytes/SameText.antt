@@ -11,6 +11,7 @@ use borrow.Author.Tests.{ltb-false, leb-false, ltb-true, eqb-true, eq-eqb, ne_eq
 use lib.Dec.{eqb, ltb}
 use lib.ListN.{length, get_or, set, replicate, length-set, length-replicate}
 use lib.Seq.{get_or-set_same, get_or-set_other, set_out}
+use Rattle.std.specs.Prelude.{Err}
 use Rattle.bits.specs.Masks.{has}
 use Rattle.bits.proofs.Laws.Masks.{has_none}
 use Rattle.text.specs.Lines.{lines_of}
@@ -19,14 +20,13 @@ use Rattle.text.specs.declared.line.Line.{Line}
 use Rattle.text.specs.declared.line.Line.TheVariants.{Bad, Segment, Partition, Right, Flow, Slot}
 use Rattle.text.proofs.Laws.Letters.{Lettered, AllLettered, lines_lettered}
 use Rattle.policy.specs.declared.record.Key.{Key}
-use Rattle.policy.specs.declared.record.Refusal.{Refusal}
 use Rattle.policy.specs.declared.record.Refusal.TheVariants.{TooLong}
 use Rattle.policy.specs.Limits.{single}
 use Rattle.policy.specs.View.{View}
 use Rattle.policy.specs.Modes.{gives_read, gives_write}
 use Rattle.policy.specs.Order.{key_of, ascends, out_of_order}
 use Rattle.policy.specs.Range.{out_of_range}
-use Rattle.policy.specs.Refusals.{is_accepted}
+use Rattle.policy.specs.Refusals.{Verdict, is_accepted}
 use Rattle.policy.specs.Tables.{Tables, zeros, view_of}
 use Rattle.policy.specs.Draft.{Draft, added, begun, no_line}
 use Rattle.policy.specs.Read.{is_bad, Answer, answer, too_long, line_refusal, whole_refusal, read_lines, read_lines_by, read_by}
@@ -250,7 +250,7 @@ module _ (b : Bytes) (t : Tables) (before : Key) (h : Both b t before) where
         fresh = fresh_after line f.said f.passing;
       }
 
-answers_same : (b : Bytes) (t : Tables) (key : Key) → Both b t key → (r : Refusal) → SameAnswer (answer_bytes r b) (answer single r t)
+answers_same : (b : Bytes) (t : Tables) (key : Key) → Both b t key → (r : Verdict) → SameAnswer (answer_bytes r b) (answer single r t)
 answers_same b t key h r = go (is_accepted r)
   where
     go : (x : Bool) → SameAnswer (record { refusal = r; bytes = cond x b zero_bytes }) (record { refusal = r; tables = cond x t (zeros single) })
@@ -268,7 +268,7 @@ lines_same (line ∷ lines) n b t before few h =
     rw (views_same b t h.stands)
     (go (is_accepted refusal) refl (λ k. lines_same lines (n + 1) (added_bytes b line) (added t line) (key_of line) few.1 k))
   where
-    refusal : Refusal
+    refusal : Verdict
     refusal = line_refusal single n before (view_of t) line
 
     old : BytesAnswer
@@ -287,7 +287,7 @@ unfolding read_bytes read_by
 same_text text = go (too_long single text)
   where
     go : (x : Bool) →
-        SameAnswer (cond x (answer_bytes TooLong zero_bytes) (read_bytes_from 1 no_line zero_bytes (lines_of text)))
-        (cond x (answer single TooLong (zeros single)) (read_lines single 1 (begun single) (lines_of text)))
-    go true = answers_same zero_bytes (zeros single) no_line both_none TooLong
+        SameAnswer (cond x (answer_bytes (Err TooLong) zero_bytes) (read_bytes_from 1 no_line zero_bytes (lines_of text)))
+        (cond x (answer single (Err TooLong) (zeros single)) (read_lines single 1 (begun single) (lines_of text)))
+    go true = answers_same zero_bytes (zeros single) no_line both_none (Err TooLong)
     go false = lines_same (lines_of text) 1 zero_bytes (zeros single) no_line (lines_lettered number text) both_none

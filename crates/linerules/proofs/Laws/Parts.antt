@@ -3,10 +3,11 @@ use Prim.Native.Nat.{ℕ}
 use mathlib.Core.Path.{◌≡◌, refl, sym, ◌∙◌}
 use mathlib.Core.Bool.{cond}
 use mathlib.Core.List.{[]}
+use Rattle.std.specs.Prelude.{Ok, Err}
 use Rattle.text.specs.declared.line.Line.{Line}
 use Rattle.text.specs.declared.line.Line.TheVariants.{Bad, Segment, Partition, Right, Flow, Slot}
 use Rattle.policy.specs.declared.record.Key.{Key}
-use Rattle.policy.specs.declared.record.Refusal.TheVariants.{Accepted, Malformed, OutOfOrder, OutOfRange, Clash}
+use Rattle.policy.specs.declared.record.Refusal.TheVariants.{Malformed, OutOfOrder, OutOfRange, Clash}
 use Rattle.policy.specs.Limits.{single}
 use Rattle.policy.specs.Order.{out_of_order}
 use Rattle.policy.specs.Range.{out_of_range}
@@ -18,9 +19,9 @@ use Rattle.linerules.specs.Parts.{part_tables, part_view, counted, placed}
 -- Each rule with what it reads.
 pub line_part : (n : ℕ) (before : Key) (t : Tables) (line : Line) →
     line_refusal single n before (view_of t) line
-    ≡ cond (is_bad line) (Malformed n)
-    (cond (out_of_order before (counted t.segments.count t.partitions.count 0) line) (OutOfOrder n)
-    (cond (out_of_range single (counted t.segments.count t.partitions.count t.slots.count) line) (OutOfRange n)
+    ≡ cond (is_bad line) (Err (Malformed n))
+    (cond (out_of_order before (counted t.segments.count t.partitions.count 0) line) (Err (OutOfOrder n))
+    (cond (out_of_range single (counted t.segments.count t.partitions.count t.slots.count) line) (Err (OutOfRange n))
     (cond
     (clashes
     (placed
@@ -31,8 +32,8 @@ pub line_part : (n : ℕ) (before : Key) (t : Tables) (line : Line) →
     t.partitions.code
     t.partitions.save)
     line)
-    (Clash n)
-    Accepted)))
+    (Err (Clash n))
+    (Ok tt))))
 unfolding line_refusal out_of_order out_of_range clashes
 line_part n before t Bad = refl
 line_part n before t (Segment id base size) = refl

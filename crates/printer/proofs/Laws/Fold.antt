@@ -9,7 +9,7 @@ use Rattle.policy.specs.Tables.{Tables, zeros, view_of}
 use Rattle.policy.specs.Draft.{begun, no_line}
 use Rattle.policy.specs.Read.{whole_refusal, read_lines, read_lines_by}
 use Rattle.policy.specs.declared.record.Key.{Key}
-use Rattle.policy.specs.declared.record.Refusal.TheVariants.{Accepted}
+use Rattle.std.specs.Prelude.{Ok}
 use Rattle.policy.proofs.Laws.First.{is_accepted_lem}
 use Rattle.printer.specs.Printer.{segment_at, partition_at, right_at, flow_at, slot_at, segment_lines, partition_lines, right_lines, flow_lines, slot_lines, lines_of_record}
 use Rattle.printer.proofs.Laws.Passed.{Passed}
@@ -136,11 +136,11 @@ module _ (limits : Limits) (t : Tables) (h : Passed limits t) where
       slots_read
 
   -- After the last line the record is whole, and passes the rules for the whole.
-  end_read : (n : ℕ) (key : Key) → read_lines limits n (draft t key) [] ≡ record { refusal = Accepted; tables = t }
+  end_read : (n : ℕ) (key : Key) → read_lines limits n (draft t key) [] ≡ record { refusal = Ok tt; tables = t }
   unfolding read_lines_by
   end_read n key = rw (is_accepted_lem (whole_refusal v) h.whole)
 
-  pub lines_read : read_lines limits 1 (begun limits) (lines_of_record limits t) ≡ record { refusal = Accepted; tables = t }
+  pub lines_read : read_lines limits 1 (begun limits) (lines_of_record limits t) ≡ record { refusal = Ok tt; tables = t }
   lines_read =
       ap (read_lines limits 1 (begun limits)) (sym (append-nil (lines_of_record limits t)))
       ∙ record_read [] _ (λ n key c. end_read n key) 1 no_line (omega arith)

@@ -12,7 +12,7 @@ use Rattle.policy.specs.Draft.{Draft, added}
 use Rattle.policy.specs.Read.{Answer, is_bad, line_refusal, read_lines, read_lines_by}
 use Rattle.policy.specs.Sound.{passes}
 use Rattle.policy.specs.declared.record.Key.{Key}
-use Rattle.policy.specs.declared.record.Refusal.TheVariants.{Accepted}
+use Rattle.std.specs.Prelude.{Ok}
 use Rattle.policy.proofs.Laws.Tests.{passes_ranged, passes_clear}
 use Rattle.printer.specs.Printer.{lines_below}
 
@@ -32,7 +32,7 @@ module _ (limits : Limits) where
   reaches_none p q K L e f ys r h n key c = rw e (h n key (f key c))
 
   accepted : (n : ℕ) (p : Tables) (key : Key) (line : Line) → is_bad line ≡ false → out_of_order key (view_of p) line ≡ false →
-      passes limits (view_of p) line ≡ true → line_refusal limits n key (view_of p) line ≡ Accepted
+      passes limits (view_of p) line ≡ true → line_refusal limits n key (view_of p) line ≡ Ok tt
   unfolding line_refusal
   accepted n p key line good ordered a =
       rw (good, ordered, passes_ranged limits (view_of p) line a, passes_clear limits (view_of p) line a)

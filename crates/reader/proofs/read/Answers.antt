@@ -6,7 +6,7 @@ use Rattle.reader.proofs.read.Goals as goal
 
 pub returns-then-text-gt-TEXT : goal.returns-then-text-gt-TEXT
 unfolding read_by
-returns-then-text-gt-TEXT c = rw (lt-ltb single.text _ c.if-text-gt-TEXT.true) c.refused.ensures
+returns-then-text-gt-TEXT c = rw (lt-ltb single.text _ c.if-text-gt-TEXT.true)
 
 pub returns : goal.returns
 unfolding read_by

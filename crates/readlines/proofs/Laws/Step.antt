@@ -2,9 +2,10 @@
 -- those of the definition.
 use Prim.Native.Nat.{ℕ, ◌<◌}
 use mathlib.Core.Path.{◌≡◌, sym, ◌∙◌, ap}
-use mathlib.Core.Bool.{Bool, true, false, ◌||◌}
+use mathlib.Core.Bool.{false, ◌||◌}
 use mathlib.Core.List.{List}
 use lib.ListN.{length}
+use Rattle.std.specs.Prelude.{Ok, Err}
 use Rattle.text.specs.Lines.{lines_of}
 use Rattle.text.specs.declared.line.Line.{Line}
 use Rattle.policy.specs.declared.record.Key.{Key}
@@ -14,8 +15,8 @@ use Rattle.policy.specs.Order.{key_of, kind_falls, id_skips, pair_falls, out_of_
 use Rattle.policy.specs.Tables.{Tables, zeros, view_of}
 use Rattle.policy.specs.View.{View}
 use Rattle.policy.specs.Draft.{added, begun}
-use Rattle.policy.specs.Refusals.{is_accepted}
-use Rattle.policy.specs.Read.{line_refusal, answer, read_lines}
+use Rattle.policy.specs.Refusals.{Verdict, is_accepted}
+use Rattle.policy.specs.Read.{line_refusal, read_lines}
 use Rattle.policy.proofs.Laws.Bools.{or_left, or_right}
 use Rattle.policy.proofs.Accepted.{fine}
 use Rattle.text.specs.Readers.{line_at, line_read}
@@ -32,9 +33,9 @@ id_next before v line h =
     (or_left (kind_falls before line || id_skips v line) (pair_falls before line) h)
 
 module _ (text : List ℕ) (tables : Tables) (before : Key) (at n : ℕ) (r : Reached text tables before at n)
-    (inside : at < length text) (read : LineRead) (refusal : Refusal) (is_read : read ≡ line_read text at n)
-    (is-refusal :
-    refusal
+    (inside : at < length text) (read : LineRead) (verdict : Verdict) (is_read : read ≡ line_read text at n)
+    (is-verdict :
+    verdict
     ≡ line_refusal single n before
     (part_view tables.segments.count tables.partitions.count tables.slots.count tables.segments.base
     tables.segments.size tables.partitions.code tables.partitions.save)
@@ -42,17 +43,18 @@ module _ (text : List ℕ) (tables : Tables) (before : Key) (at n : ℕ) (r : Re
   same_line : read.line ≡ line_at text at
   same_line = ap (λ l. l.line) is_read ∙ line_says text at n
 
-  same_refusal : refusal ≡ line_refusal single n before (view_of tables) (line_at text at)
-  same_refusal = is-refusal ∙ sym (part_same n before tables read.line) ∙ ap (line_refusal single n before (view_of tables)) same_line
+  same_verdict : verdict ≡ line_refusal single n before (view_of tables) (line_at text at)
+  same_verdict = is-verdict ∙ sym (part_same n before tables read.line) ∙ ap (line_refusal single n before (view_of tables)) same_line
 
-  pub step_refused : is_accepted refusal ≡ false → answer single refusal (zeros single) ≡ read_lines single 1 (begun single) (lines_of text)
-  step_refused h =
-      rw same_refusal
-      (stops_refused text tables before at n r inside (sym (ap is_accepted same_refusal) ∙ h))
+  pub step_refused : (refusal : Refusal) → verdict ≡ Err refusal →
+      record { refusal = Err refusal; tables = zeros single } ≡ read_lines single 1 (begun single) (lines_of text)
+  step_refused refusal h =
+      let e = sym same_verdict ∙ h in
+      rw e at (stops_refused text tables before at n r inside (ap is_accepted e))
 
-  pub step_fits : is_accepted refusal ≡ true → Fits (view_of tables) read.line
+  pub step_fits : verdict ≡ Ok tt → Fits (view_of tables) read.line
   step_fits h =
-      let f = fine single n before (view_of tables) read.line (sym (ap is_accepted (is-refusal ∙ sym (part_same n before tables read.line))) ∙ h) in
+      let f = fine single n before (view_of tables) read.line (ap is_accepted (sym (is-verdict ∙ sym (part_same n before tables read.line)) ∙ h)) in
       record {
         in_range = f.passing.ranged;
         next_id = id_next before (view_of tables) read.line f.passing.ordered;
@@ -61,18 +63,17 @@ module _ (text : List ℕ) (tables : Tables) (before : Key) (at n : ℕ) (r : Re
         few_slots = r.kept.counts.slots;
       }
 
-  -- The line is given, and what the code answered.
-  pub line_fits : (line : Line) (accepted : Bool) → accepted ≡ is_accepted refusal → accepted ≡ true → read.line ≡ line →
-      Fits (view_of tables) line
-  line_fits line accepted e h is = rw is at (step_fits (sym e ∙ h))
+  -- The line is given.
+  pub line_fits : (line : Line) → verdict ≡ Ok tt → read.line ≡ line → Fits (view_of tables) line
+  line_fits line h is = rw is at (step_fits h)
 
   pub step_more :
-      (next : Tables) (key : Key) → is_accepted refusal ≡ true → next ≡ added tables read.line
+      (next : Tables) (key : Key) → verdict ≡ Ok tt → next ≡ added tables read.line
       → key ≡ key_of read.line → Reached text next key read.next.at read.next.line
   step_more next key h p k =
       rw (p, k, same_line, is_read)
-      (reached_more text tables before at n r inside (sym (ap is_accepted same_refusal) ∙ h))
+      (reached_more text tables before at n r inside (ap is_accepted (sym same_verdict ∙ h)))
 
   -- the place is left past the line, so the text grows shorter
-  pub step_shorter : is_accepted refusal ≡ true → at < read.next.at
-  step_shorter h = rw is_read (moves_on text tables before at n r (sym (ap is_accepted same_refusal) ∙ h))
+  pub step_shorter : verdict ≡ Ok tt → at < read.next.at
+  step_shorter h = rw is_read (moves_on text tables before at n r (ap is_accepted (sym same_verdict ∙ h)))

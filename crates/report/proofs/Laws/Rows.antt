@@ -5,12 +5,12 @@ use mathlib.Core.List.{List}
 use native.Mathlib.Numerals.{add-one}
 use native.Mathlib.Omega.{arith}
 use lib.ListN.{length, length-append}
-use Rattle.policy.specs.declared.record.Refusal.{Refusal}
-use Rattle.policy.specs.declared.record.Refusal.TheVariants.{Accepted, TooLong, Malformed, OutOfOrder, OutOfRange, Clash, Incomplete, CodeUnreadable, FlowMissing, StraySource}
+use Rattle.std.specs.Prelude.{Ok, Err}
+use Rattle.policy.specs.declared.record.Refusal.TheVariants.{TooLong, Malformed, OutOfOrder, OutOfRange, Clash, Incomplete, CodeUnreadable, FlowMissing, StraySource}
 use Rattle.policy.specs.View.{View}
 use Rattle.policy.specs.Schedule.{round_ticks}
 use Rattle.policy.specs.Tables.{Tables, view_of}
-use Rattle.policy.specs.Refusals.{number_of}
+use Rattle.policy.specs.Refusals.{Verdict, number_of}
 use Rattle.policy.proofs.Laws.Sums.{sum_most}
 use Rattle.report.specs.Report.{accepted_row, segment_row, segment_rows}
 use Rattle.report.specs.Reportable.{Countable}
@@ -74,14 +74,14 @@ unfolding rows_in segment_rows segment_row mask_in
 rows_same t zero = refl
 rows_same t (suc n) = rw (rows_same t n)
 
-pub number_small : (r : Refusal) → number_of r < 100
-number_small Accepted = omega arith
-number_small TooLong = omega arith
-number_small (Malformed line) = omega arith
-number_small (OutOfOrder line) = omega arith
-number_small (OutOfRange line) = omega arith
-number_small (Clash line) = omega arith
-number_small Incomplete = omega arith
-number_small CodeUnreadable = omega arith
-number_small FlowMissing = omega arith
-number_small StraySource = omega arith
+pub number_small : (v : Verdict) → number_of v < 100
+number_small (Ok accepted) = omega arith
+number_small (Err TooLong) = omega arith
+number_small (Err (Malformed line)) = omega arith
+number_small (Err (OutOfOrder line)) = omega arith
+number_small (Err (OutOfRange line)) = omega arith
+number_small (Err (Clash line)) = omega arith
+number_small (Err Incomplete) = omega arith
+number_small (Err CodeUnreadable) = omega arith
+number_small (Err FlowMissing) = omega arith
+number_small (Err StraySource) = omega arith

@@ -1,6 +1,6 @@
 -- A refused text's one line; of an accepted one the sheet of its record, which is sound.
 use Prim.Native.Nat.{◌<◌}
-use mathlib.Core.Path.{sym, ◌∙◌}
+use mathlib.Core.Path.{refl}
 use native.Mathlib.Omega.{arith}
 use Rattle.policy.specs.Limits.{single}
 use Rattle.policy.specs.Record.{tables_of}
@@ -13,40 +13,30 @@ use Rattle.sheeting.proofs.Laws.Lines.{ticks_there, silence_there, ticks_small, 
 use Rattle.sheeting.proofs.sheet_on.Goals as goal
 
 pub put_refused-requires : goal.put_refused-requires
-put_refused-requires c = (named_short _ c.read-reading.ensures, omega arith)
+put_refused-requires c = (named_short _ c.in-Err.ensures, omega arith)
 
-pub returns-then-not-is_accepted : goal.returns-then-not-is_accepted
-returns-then-not-is_accepted c =
-    let i = c in
-    let r = i in
-    let refused = sym i.is_accepted.ensures ∙ i.if-not-is_accepted.true in
-    rw (sheet_refused _ r.read-reading.ensures refused) (written_within c.put_refused.ensures (omega (arith, refused_fits _ r.read-reading.ensures)))
+pub returns-in-Err : goal.returns-in-Err
+returns-in-Err c =
+    rw (sheet_refused _ c.in-Err.ensures refl) (written_within c.put_refused.ensures (omega (arith, refused_fits _ c.in-Err.ensures)))
 
 pub put_partitions-next-requires : goal.put_partitions-next-requires
 put_partitions-next-requires c =
-    let accepted = sym c.is_accepted.ensures ∙ c.if-not-is_accepted.false in
-    let sound = sound_read _ c.read-reading.ensures accepted in
-    let s = c in
-    let i = s in
-    let t = tables_of i.read-reading.result.policy in
-    let e = s.sheet_of-sheet.ensures in
+    let sound = sound_read _ c.in-Ok.ensures refl in
+    let t = tables_of c.in-Ok.policy in
+    let e = c.sheet_of-sheet.ensures in
     let h = sound in
     ((lawful single t h).few_partitions, ticks_there t h e, silence_there t h e, omega arith, ticks_small t h e, still_small t h e)
 
 pub round_ticks-requires : goal.round_ticks-requires
 round_ticks-requires c =
-    let accepted = sym c.is_accepted.ensures ∙ c.if-not-is_accepted.false in
-    let sound = sound_read _ c.read-reading.ensures accepted in
-    let i = c in
-    let w = lawful single (tables_of i.read-reading.result.policy) sound in
+    let sound = sound_read _ c.in-Ok.ensures refl in
+    let w = lawful single (tables_of c.in-Ok.policy) sound in
     (w.few_slots, w.ticks_most)
 
 pub put_row-requires : goal.put_row-requires
 put_row-requires c =
-    let accepted = sym c.is_accepted.ensures ∙ c.if-not-is_accepted.false in
-    let sound = sound_read _ c.read-reading.ensures accepted in
-    let i = c in
-    let t = tables_of i.read-reading.result.policy in
+    let sound = sound_read _ c.in-Ok.ensures refl in
+    let t = tables_of c.in-Ok.policy in
     let h = sound in
     let lines = c.put_partitions-next.ensures in
     let number = c.round_ticks in
@@ -55,16 +45,12 @@ put_row-requires c =
       omega (arith, lines.place, rows_short t h c.sheet_of-sheet.ensures, written_long lines, round_short number.result small),
     )
 
-pub returns : goal.returns
-returns c =
-    let accepted = sym c.is_accepted.ensures ∙ c.if-not-is_accepted.false in
-    let sound = sound_read _ c.read-reading.ensures accepted in
-    let s = c in
-    let i = s in
-    let r = i in
-    let t = tables_of r.read-reading.result.policy in
-    let e = s.sheet_of-sheet.ensures in
-    rw (sheet_accepted _ r.read-reading.ensures accepted)
+pub returns-in-Ok : goal.returns-in-Ok
+returns-in-Ok c =
+    let sound = sound_read _ c.in-Ok.ensures refl in
+    let t = tables_of c.in-Ok.policy in
+    let e = c.sheet_of-sheet.ensures in
+    rw (sheet_accepted _ c.in-Ok.ensures refl)
     (written_within
     (sheet_written (view_of t) (ticks_in t sound e) (silence_in t sound e) (ticks_are t sound e) (silence_are t sound e)
     c.round_ticks.ensures c.put_partitions-next.ensures c.put_row.ensures)

@@ -7,7 +7,7 @@ returns c =
     let second = third in
     let first = second in
     rw (
-      c.is_accepted.ensures,
+      c.is_ok.ensures.value,
       c.lent_refusal.ensures,
       third.widen-3.ensures.0,
       second.widen-2.ensures.0,
