@@ -13,7 +13,7 @@ use calls::{Outcome, Placed};
 use machine::{MOST_TICKS_OF_RUN, Place};
 use parts::is_able;
 use policy::{MEMORY, Policy};
-use schedule::{is_place, lesser, next_turn, place_with, turn_at};
+use schedule::{is_place, next_turn, place_with, turn_at};
 use validate::passes_test;
 
 fn run_ticks(policy: Policy, memory: &mut [u8], place: Place, n: u32) -> Place
@@ -23,39 +23,27 @@ fn run_ticks(policy: Policy, memory: &mut [u8], place: Place, n: u32) -> Place
         ≡ after_ticks (view_of (tables_of policy)) n (state_of memory.old place) }
 {
     let mut turn = turn_at(&policy.ticks, place);
-    let mut left: u32 = n;
+    let mut left = n;
+    // By hand: each turn takes as many ticks as its slot has left.
     while 0 < left {
         let slot = turn.slot;
         let room = turn.left;
-        let owner = policy.owner[slot as usize] as usize;
-        let save = policy.save[owner];
+        let owner = usize::from(policy.owner[slot as usize]);
+        let save = usize::from(policy.save[owner]);
         // Asked before all else is looked up: an idle partition needs none of it.
-        if is_able(memory, usize::from(policy.base[save as usize])) {
-            let code = policy.code[owner];
-            let reads = policy.reads[owner] as u64;
-            let writes = policy.writes[owner] as u64;
-            stretch(
-                memory,
-                &policy.base,
-                &policy.size,
-                reads,
-                writes,
-                policy.segments,
-                code,
-                save,
-                std::num::wrapping_add_u32(place.count, n - left),
-                lesser(left, room),
-            );
+        if is_able(memory, usize::from(policy.base[save])) {
+            let count = place.count.wrapping_add(n - left);
+            stretch(memory, &policy, owner, count, left.min(room));
         }
         // A branch, and no choice between two places: the next slot does not wait for the ticks of this one.
         if left < room {
-            let end = std::num::wrapping_add_u32(place.count, n);
+            let end = place.count.wrapping_add(n);
             return place_with(&policy.ticks, slot, room - left, end);
         }
         left -= room;
         turn = next_turn(&policy.ticks, policy.slots, slot);
     }
-    let end = std::num::wrapping_add_u32(place.count, n);
+    let end = place.count.wrapping_add(n);
     place_with(&policy.ticks, turn.slot, turn.left, end)
 }
 

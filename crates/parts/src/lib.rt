@@ -2,7 +2,9 @@
 // that part alone, which is lent.
 #![tactic(auto)]
 
-ghost use Rattle.std.specs.Prelude.{◌≡◌, true, ◌+◌, ◌%◌, ◌≤◌, ◌<◌, length, set};
+mod width;
+
+ghost use Rattle.std.specs.Prelude.{◌≡◌, true, ◌+◌, ◌%◌, ◌≤◌, ◌<◌, length};
 ghost use Rattle.std.proofs.lemmas.List.Edits.{sets};
 ghost use Rattle.policy.specs.Limits.{save_size};
 ghost use Rattle.machine.specs.Bytes.{part, digits};
@@ -14,10 +16,11 @@ ghost use Rattle.savearea.specs.Next.{Hands};
 ghost use Rattle.parts.specs.Parts.{saved_at, with_saved, is_beside, loaded_from, stored_to};
 
 use machine::{Fault, Instr};
-use octets::{entry_or, get_half, get_word_in, low, put, put_word_at, word_at};
+use octets::{entry_or, get_half, get_word_in};
 use policy::SAVE_SIZE;
 use savearea::asking;
 use savearea::layout::{COUNTER, STATE, State};
+pub use width::{Byte, Width, Word};
 
 pub fn fault(memory: &mut [u8], from: usize, f: Fault)
     requires { from + save_size ≤ length memory.old }
@@ -72,8 +75,9 @@ pub fn is_able(memory: &[u8], from: usize) -> bool
 }
 
 pub fn interrupt(memory: &mut [u8], from: usize, pc: u16)
-    requires save_size_in_bounds { (from + save_size ≤ length memory.old) × (0 < due (saved_at memory.old from)) }
-    requires pc_value { pc ≡ counter (saved_at memory.old from) }
+    requires save_inside { from + save_size ≤ length memory.old }
+    requires line_due { 0 < due (saved_at memory.old from) }
+    requires counter_is { pc ≡ counter (saved_at memory.old from) }
     ensures { memory.new
         ≡ with_saved memory.old from (interrupted (saved_at memory.old from)) }
 {
@@ -90,25 +94,19 @@ pub fn fetch(memory: &[u8], start: usize, size: usize, at: u16) -> Option<Instr>
     decoder::fetch(&memory[start..end], at)
 }
 
-fn store_at(memory: &mut [u8], start: usize, size: usize, at: usize, b: u8)
-    requires { (start + size ≤ length memory.old) × (at < size) }
-    ensures { memory.new ≡ set memory.old (start + at) b }
+// A number's lowest bytes, as many as the width, stored into the segment that is lent.
+fn store_at<W: Width>(memory: &mut [u8], start: usize, size: usize, at: u32, n: u32)
+    requires { (start + size ≤ length memory.old) × (at + W.BYTES ≤ size) }
+    ensures { memory.new ≡ sets memory.old (start + at) (digits W.BYTES n) }
 {
     let end = start + size;
-    put(&mut memory[start..end], at, b);
+    W::write(&mut memory[start..end], at, n);
 }
 
-fn store_word_at(memory: &mut [u8], start: usize, size: usize, at: u32, n: u32)
-    requires { (start + size ≤ length memory.old) × (at + 4 ≤ size) }
-    ensures { memory.new ≡ sets memory.old (start + at) (digits 4 n) }
-{
-    let end = start + size;
-    put_word_at(&mut memory[start..end], at, n);
-}
-
-// Register a takes the byte at the offset that register b has. Each of the four is handed the counter, and hands on what
-// the next tick is handed. A load leaves lines and state, so the next tick asks for them after a fault alone.
-pub fn load_from(
+// Register a takes the bytes from the offset that register b has on. A load and a store are handed the counter, and hand on
+// what the next tick is handed. A load leaves lines and state, so the next tick asks for them after a fault alone. The offset
+// is widened before the width is added, so that the sum cannot come round.
+pub fn load_from<W: Width>(
     memory: &mut [u8],
     from: usize,
     start: usize,
@@ -117,40 +115,41 @@ pub fn load_from(
     b: u32,
     pc: u16,
 ) -> u32
-    requires save_size_in_bounds { (from + save_size ≤ length memory.old) × (start + size ≤ length memory.old) }
-    requires pc_value { (pc ≡ counter (saved_at memory.old from)) × (a < 8) × (b < 8) }
-    ensures { (memory.new
+    requires parts_inside { (from + save_size ≤ length memory.old) × (start + size ≤ length memory.old) }
+    requires counter_and_registers { (pc ≡ counter (saved_at memory.old from)) × (a < 8) × (b < 8) }
+    ensures loaded { memory.new
         ≡ with_saved memory.old from
-        (loaded_from 1 (saved_at memory.old from) (part memory.old start size) size a b))
-        × Hands result (saved_at memory.old from) (saved_at memory.new from) }
+        (loaded_from W.BYTES (saved_at memory.old from) (part memory.old start size) size a b) }
+    ensures hands { Hands result (saved_at memory.old from) (saved_at memory.new from) }
 {
-    let at = get_register(memory, from, b) as usize;
-    if size <= at {
+    let width = usize::from(W::BYTES);
+    let at = get_register(memory, from, b);
+    if size < (at as usize) + width {
         fault(memory, from, Fault::OffsetOver);
         return asking(pc);
     }
     let end = start + size;
-    let x = entry_or(&memory[start..end], at, 0) as u32;
+    let x = W::read(&memory[start..end], at);
     let to = from + SAVE_SIZE;
-    savearea::put_result(&mut memory[from..to], a, x, pc) as u32
+    u32::from(savearea::put_result(&mut memory[from..to], a, x, pc))
 }
 
 // What a store of so many bytes from a place on hands to the next tick: the counter that it put, where none of them is a
 // save byte, for lines and state are then as they were; else the counter that is read back, and the next tick asks.
 fn after_store(memory: &[u8], from: usize, at: usize, width: usize, next: u16) -> u32
-    requires save_size_in_bounds { (from + save_size ≤ length memory.now) × (at + width ≤ length memory.now) }
-    requires next_value { is_beside from at width ≡ true → next ≡ counter (saved_at memory.now from) }
+    requires parts_inside { (from + save_size ≤ length memory.now) × (at + width ≤ length memory.now) }
+    requires put_beside { is_beside from at width ≡ true → next ≡ counter (saved_at memory.now from) }
     ensures { (result % 65536 ≡ counter (saved_at memory.now from)) × (result < 65536 → is_beside from at width ≡ true) }
 {
     let to = from + SAVE_SIZE;
     if (at + width <= from) | (to <= at) {
-        return next as u32;
+        return u32::from(next);
     }
     asking(get_counter(memory, from))
 }
 
-// That byte takes register a. The save bytes are put first, as the definition has it; nothing is read between.
-pub fn store_to(
+// Those bytes take register a. The save bytes are put first, as the definition has it; nothing is read between.
+pub fn store_to<W: Width>(
     memory: &mut [u8],
     from: usize,
     start: usize,
@@ -159,75 +158,19 @@ pub fn store_to(
     b: u32,
     pc: u16,
 ) -> u32
-    requires save_size_in_bounds { (from + save_size ≤ length memory.old) × (start + size ≤ length memory.old) }
-    requires pc_value { (pc ≡ counter (saved_at memory.old from)) × (a < 8) × (b < 8) }
-    ensures { (memory.new ≡ stored_to 1 memory.old from start size a b)
-        × Hands result (saved_at memory.old from) (saved_at memory.new from) }
+    requires parts_inside { (from + save_size ≤ length memory.old) × (start + size ≤ length memory.old) }
+    requires counter_and_registers { (pc ≡ counter (saved_at memory.old from)) × (a < 8) × (b < 8) }
+    ensures stored { memory.new ≡ stored_to W.BYTES memory.old from start size a b }
+    ensures hands { Hands result (saved_at memory.old from) (saved_at memory.new from) }
 {
-    let at = get_register(memory, from, b) as usize;
-    let x = low(get_register(memory, from, a));
-    if at < size {
-        let to = from + SAVE_SIZE;
-        let next = savearea::advance(&mut memory[from..to], pc);
-        store_at(memory, start, size, at, x);
-        after_store(memory, from, start + at, 1, next)
-    } else {
-        fault(memory, from, Fault::OffsetOver);
-        asking(pc)
-    }
-}
-
-// Register a takes the four bytes from the offset that register b has on. The offset is widened before 4 is added, so that
-// the sum cannot come round.
-pub fn load_word_from(
-    memory: &mut [u8],
-    from: usize,
-    start: usize,
-    size: usize,
-    a: u32,
-    b: u32,
-    pc: u16,
-) -> u32
-    requires save_size_in_bounds { (from + save_size ≤ length memory.old) × (start + size ≤ length memory.old) }
-    requires pc_value { (pc ≡ counter (saved_at memory.old from)) × (a < 8) × (b < 8) }
-    ensures { (memory.new
-        ≡ with_saved memory.old from
-        (loaded_from 4 (saved_at memory.old from) (part memory.old start size) size a b))
-        × Hands result (saved_at memory.old from) (saved_at memory.new from) }
-{
-    let at = get_register(memory, from, b);
-    if size < (at as usize) + 4 {
-        fault(memory, from, Fault::OffsetOver);
-        return asking(pc);
-    }
-    let end = start + size;
-    let x = word_at(&memory[start..end], at);
-    let to = from + SAVE_SIZE;
-    savearea::put_result(&mut memory[from..to], a, x, pc) as u32
-}
-
-// Those four bytes take register a; the save bytes are put first here too.
-pub fn store_word_to(
-    memory: &mut [u8],
-    from: usize,
-    start: usize,
-    size: usize,
-    a: u32,
-    b: u32,
-    pc: u16,
-) -> u32
-    requires save_size_in_bounds { (from + save_size ≤ length memory.old) × (start + size ≤ length memory.old) }
-    requires pc_value { (pc ≡ counter (saved_at memory.old from)) × (a < 8) × (b < 8) }
-    ensures { (memory.new ≡ stored_to 4 memory.old from start size a b)
-        × Hands result (saved_at memory.old from) (saved_at memory.new from) }
-{
+    let width = usize::from(W::BYTES);
     let at = get_register(memory, from, b);
     let x = get_register(memory, from, a);
-    if (at as usize) + 4 <= size {
+    if (at as usize) + width <= size {
         let to = from + SAVE_SIZE;
         let next = savearea::advance(&mut memory[from..to], pc);
-        store_word_at(memory, start, size, at, x);
-        after_store(memory, from, start + at as usize, 4, next)
+        store_at::<W>(memory, start, size, at, x);
+        after_store(memory, from, start + at as usize, width, next)
     } else {
         fault(memory, from, Fault::OffsetOver);
         asking(pc)

@@ -4,5 +4,5 @@
 mod place;
 mod round;
 
-pub use place::{Turn, is_place, lesser, next_turn, place_with, turn_at};
+pub use place::{Turn, is_place, next_turn, place_with, turn_at};
 pub use round::round_ticks;

@@ -1,5 +1,5 @@
 // A place of the schedule: whether it is one, and where ticks of its slot lead.
-ghost use Rattle.std.specs.Prelude.{◌≡◌, ◌&&◌, ◌-◌, ◌≤◌, ◌<◌, min, ltb, get_or};
+ghost use Rattle.std.specs.Prelude.{◌≡◌, ◌&&◌, ◌-◌, ◌≤◌, ◌<◌, ltb, get_or};
 ghost use Rattle.schedule.specs.Places.{slot_after, place_with};
 
 use machine::Place;
@@ -12,12 +12,6 @@ pub fn is_place(ticks: &[u16], slots: u8, place: Place) -> bool
     let there = place.slot < slots as u32;
     let left = place.used < entry_or(ticks, place.slot as usize, 0) as u32;
     there & left
-}
-
-pub fn lesser(a: u32, b: u32) -> u32
-    ensures { result ≡ min a b }
-{
-    if a < b { a } else { b }
 }
 
 // A slot, and how many of its ticks are left. A Run keeps these in place of the ticks used, which it would have to keep beside

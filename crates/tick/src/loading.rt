@@ -1,42 +1,37 @@
-// A load: the right decides first, and then the offset. It asks the read mask alone, so its promise holds for every
-// write mask.
-ghost use Rattle.std.specs.Prelude.{◌≡◌, ℕ, ◌+◌, ◌≤◌, ◌<◌, length};
-ghost use Rattle.policy.specs.Limits.{save_size};
+// A load of any width: the right decides first, and then the offset. It asks the read mask alone.
+ghost use Rattle.std.specs.Prelude.{◌≡◌, ◌<◌, length};
 ghost use Rattle.machine.specs.Save.{counter};
 ghost use Rattle.savearea.specs.Next.{Hands};
 ghost use Rattle.parts.specs.Parts.{saved_at};
-ghost use Rattle.tick.specs.Seat.{seat_of, Inside};
+ghost use Rattle.tick.specs.At.{seat_at};
 ghost use Rattle.tick.specs.Done.{loaded};
 
 use crate::reach::{entry, may};
+use crate::seat::Seat;
 use machine::Fault;
-use parts::{fault, load_from};
+use parts::{Width, fault, load_from};
 use savearea::asking;
 
-pub(crate) fn load<'a>(
-    memory: &mut [u8],
-    base: &'a [u16],
-    size: &'a [u16],
-    reads: u64,
-    segments: u8,
-    from: usize,
-    a: u32,
-    b: u32,
-    c: u32,
-    pc: u16,
-) -> u32
-    requires save_size_in_bounds { from + save_size ≤ length memory.old }
-    requires inside { Inside base.now size.now segments (length memory.old) }
-    requires pc_value { (pc ≡ counter (saved_at memory.old from)) × (a < 8) × (b < 8) }
-    ensures { ((writes : ℕ) → memory.new
-        ≡ loaded (seat_of base.now size.now reads writes segments)
-        1 from memory.old a b c)
-        × Hands result (saved_at memory.old from) (saved_at memory.new from) }
-{
-    if may(reads, segments, c) {
-        load_from(memory, from, entry(base, c), entry(size, c), a, b, pc)
-    } else {
-        fault(memory, from, Fault::NoRight);
-        asking(pc)
+impl Seat<'_> {
+    pub(crate) fn load<W: Width>(&self, memory: &mut [u8], a: u32, b: u32, c: u32, pc: u16) -> u32
+        requires whole { length memory.old ≡ self.now.whole }
+        requires counter_and_registers { (pc ≡ counter (saved_at memory.old self.now.from)) × (a < 8) × (b < 8) }
+        ensures loaded { memory.new ≡ loaded (seat_at self.now) W.BYTES self.now.from memory.old a b c }
+        ensures hands { Hands result (saved_at memory.old self.now.from) (saved_at memory.new self.now.from) }
+    {
+        if may(self.reads, self.segments, c) {
+            load_from::<W>(
+                memory,
+                self.from,
+                entry(self.base, c),
+                entry(self.size, c),
+                a,
+                b,
+                pc,
+            )
+        } else {
+            fault(memory, self.from, Fault::NoRight);
+            asking(pc)
+        }
     }
 }

@@ -129,14 +129,10 @@ module _ (S : Seat) (from start room : ℕ) where
       rw (all, in_turn c (n - left) left m₀ h, ← g.memory) (sym (idle_for (count_after (n - left) c) left m d))
 
 -- The machine's ticks of a partition are these, at its segments' bases and its code's size.
-by_numbers : (S : Seat) (code save c n : ℕ) (m : List ℕ) → ticked_for S (S.base save) (S.base code) (S.size code) c n m ≡ ticked_by S code save c n m
+pub by_numbers : (S : Seat) (code save c n : ℕ) (m : List ℕ) → ticked_for S (S.base save) (S.base code) (S.size code) c n m ≡ ticked_by S code save c n m
 unfolding ticked_for ticked_by tick_of
 by_numbers S code save c zero m = refl
 by_numbers S code save c (suc n) m = by_numbers S code save (count_after 1 c) n (ticked S (S.base save) (S.base code) (S.size code) c m)
-
-pub to_code : (S : Seat) (code save from start room c n : ℕ) (m m' : List ℕ) → from ≡ S.base save → start ≡ S.base code → room ≡ S.size code
-    → m' ≡ ticked_for S from start room c n m → m' ≡ ticked_by S code save c n m
-to_code S code save from start room c n m m' f g h e = rw (← by_numbers S code save c n m, ← f, ← g, ← h) e
 
 pub idle_ticks : (S : Seat) (code save c n : ℕ) (m : List ℕ) → is_able (part m (S.base save) 44) ≡ false → ticked_by S code save c n m ≡ m
 idle_ticks S code save c n m e = sym (by_numbers S code save c n m) ∙ idle_for S (S.base save) (S.base code) (S.size code) c n m e

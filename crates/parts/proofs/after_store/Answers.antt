@@ -13,7 +13,7 @@ unfolding is_beside
 returns-then-at-width c =
     let start = c in
     let beside = c.if-at-width.true in
-    (mod-eq_of_lt (search rules) ∙ start.requires.next_value beside, λ _. beside)
+    (rw c.from.ensures (mod-eq_of_lt (search rules)) ∙ start.requires.put_beside beside, λ _. beside)
 
 pub returns : goal.returns
 returns c =

@@ -1,64 +1,54 @@
--- Both registers are read first, the save bytes are put and then the byte, as in `stored_to`. A byte beside the save bytes leaves them as they were
+-- Both registers are read first, the save bytes are put and then the bytes, as in `stored_to`. Bytes beside the save bytes leave these as they were
 -- put, and so lines, handler and state; else, and after a fault, the next tick asks.
-use mathlib.Core.Path.{sym, ◌∙◌}
-use mathlib.Core.List.{[], ◌∷◌}
+use Rattle.std.proofs.Common.{sym, ◌∙◌, rules}
 use native.Mathlib.Nat.{add-sub_cancel_left}
-use borrow.Author.Tests.{lt-ltb, le-ltb}
-use Rattle.machine.proofs.Laws.Numbers.{digits-one, inside_one}
+use borrow.Author.Tests.{le-leb, lt-leb}
+use Rattle.machine.specs.Bytes.{digits}
+use Rattle.machine.specs.Tick.{in_segment}
+use Rattle.machine.proofs.Laws.Numbers.{length_digits}
 use Rattle.parts.specs.Parts.{stored_to}
 use Rattle.parts.proofs.Laws.Counters.{counter_beside, plain_beside, hands_fault}
-use borrow.Author.Rules.{rules}
 use Rattle.parts.proofs.store_to.Goals as goal
 
 pub advance-next-requires : goal.advance-next-requires
-advance-next-requires c =
+advance-next-requires g c =
     let p = c.requires in
-    (rw add-sub_cancel_left p.pc_value.0, search rules)
+    (rw add-sub_cancel_left p.counter_and_registers.0, search rules)
 
-pub after_store-requires : goal.after_store-requires
-after_store-requires c =
-    let s = c in
-    let a = s in
-    let start = a in record {
-      save_size_in_bounds = (search rules, search rules);
-      next_value = λ beside.
-          a.advance-next.ensures.1
-          ∙ rw (s.store_at.ensures, a.advance-next.ensures.0, add-sub_cancel_left) (sym (counter_beside _ _ start.requires.save_size_in_bounds.0 _ (_ ∷ []) beside));
-    }
+pub after_store-requires-clause-put_beside : goal.after_store-requires-clause-put_beside
+after_store-requires-clause-put_beside g c = λ beside.
+    c.advance-next.ensures.1
+    ∙ rw (c.store_at.ensures, c.advance-next.ensures.0, add-sub_cancel_left)
+    (sym (counter_beside _ _ c.requires.parts_inside.0 _ (digits g.W.Width.BYTES _) (rw length_digits (rw (c.from-width.ensures, c.BYTES.ensures) at beside))))
 
-pub returns-then-at-size : goal.returns-then-at-size
-unfolding stored_to
-returns-then-at-size c =
-    let s = c in
-    let a = s in
-    let i = a in
-    let l = i in
-    let start = l in
+pub returns-then-at-width-clause-stored : goal.returns-then-at-width-clause-stored
+unfolding stored_to in_segment
+returns-then-at-width-clause-stored g c =
+    let fits = rw (c.from-width.ensures, c.BYTES.ensures) at c.if-at-width.true in
+    rw (
+      c.store_at.ensures,
+      c.advance-next.ensures.0,
+      add-sub_cancel_left,
+      c.get_register-x.ensures,
+      ← c.get_register-at.ensures,
+      le-leb _ _ fits,
+    )
+
+pub returns-then-at-width-clause-hands : goal.returns-then-at-width-clause-hands
+returns-then-at-width-clause-hands g c =
     let e = c.after_store.ensures in (
-      rw (
-        s.store_at.ensures,
-        a.advance-next.ensures.0,
-        add-sub_cancel_left,
-        l.low-x.ensures,
-        l.get_register.ensures,
-        ← l.get_register-at.ensures,
-        inside_one,
-        lt-ltb _ _ i.if-at-size.true,
-        digits-one,
-      ),
-      (
-        e.0,
-        λ small. rw (s.store_at.ensures, a.advance-next.ensures.0, add-sub_cancel_left) (plain_beside _ _ start.requires.save_size_in_bounds.0 _ (_ ∷ []) (e.1 small)),
-      ),
+      e.0,
+      λ small. rw (c.store_at.ensures, c.advance-next.ensures.0, add-sub_cancel_left)
+          (plain_beside _ _ c.requires.parts_inside.0 _ (digits g.W.Width.BYTES _) (rw length_digits (rw (c.from-width.ensures, c.BYTES.ensures) at e.1 small))),
     )
 
-pub returns-else-at-size : goal.returns-else-at-size
-unfolding stored_to
-returns-else-at-size c =
-    let i = c in
-    let e = c.fault.ensures in
-    let g = i in
-    let start = g in (
-      rw (e, ← g.get_register-at.ensures, inside_one, le-ltb _ _ i.if-at-size.false),
-      rw e (hands_fault _ _ start.requires.save_size_in_bounds.0 _ _ _ (search rules) start.requires.pc_value.0 c.asking.ensures),
-    )
+pub returns-else-at-width-clause-stored : goal.returns-else-at-width-clause-stored
+unfolding stored_to in_segment
+returns-else-at-width-clause-stored g c =
+    let over = rw (c.from-width.ensures, c.BYTES.ensures) at c.if-at-width.false in
+    rw (c.fault.ensures, ← c.get_register-at.ensures, lt-leb _ _ over)
+
+pub returns-else-at-width-clause-hands : goal.returns-else-at-width-clause-hands
+returns-else-at-width-clause-hands g c =
+    let p = c.requires in
+    rw c.fault.ensures (hands_fault _ _ p.parts_inside.0 _ _ _ (search rules) p.counter_and_registers.0 c.asking.ensures)

@@ -5,7 +5,7 @@ use Rattle.policy.specs.Tables.{view_of}
 use Rattle.policy.specs.Record.{tables_of}
 use Rattle.machine.specs.Machine.{seat}
 use Rattle.tick.proofs.Laws.Reach.{save_inside}
-use Rattle.kernel.specs.Stretch.{ticked_by}
+use Rattle.kernel.specs.Stretch.{ticked_of}
 use Rattle.kernel.proofs.Laws.Ticks.{idle_ticks}
 use Rattle.kernel.proofs.Laws.Reached.{owner_of, reached_none, slot_in_lem, used_in, many_few, owner_below, tick_fits}
 use Rattle.kernel.proofs.Laws.Turns.{place_by, turned_first, room_in, ends_in, ends_slot}
@@ -20,7 +20,7 @@ pub loop-left-init : goal.loop-left-init
 loop-left-init c = turned_first _ _ c.requires.0 _ _ _ _ c.requires.1 (search (rules, c.well_formed)) c.turn_at-turn.ensures
 
 pub bounds-policy-owner : goal.bounds-policy-owner
-bounds-policy-owner c = owner_below _ _ c.requires.0 _ _ _ _ c.loop-left.invariant.reached
+bounds-policy-owner c = rw c.from-owner.ensures (owner_below _ _ c.requires.0 _ _ _ _ c.loop-left.invariant.reached)
 
 -- Where the save segment begins is in the record.
 pub bounds-policy-save : goal.bounds-policy-save
@@ -28,32 +28,29 @@ bounds-policy-save c =
     let g = c.well_formed in
     let p = tick_fits _ _ c.requires.0 _ _ _ _ c.loop-left.invariant.reached (omega arith) (search (rules, g)) (search (rules, g)) in
     let long : length c.args.policy.base ≡ 32 = search (rules, g) in
-    omega (arith, p.save_there, p.every.base_there, long)
+    rw (c.from-save.ensures, c.from-owner.ensures) (omega (arith, p.save_there, p.every.base_there, long))
 
 pub is_able-requires : goal.is_able-requires
 is_able-requires c =
     let g = c.well_formed in
-    rw c.from.ensures
+    rw (c.from.ensures, c.from-save.ensures, c.from-owner.ensures)
     (save_inside
     (tick_fits _ _ c.requires.0 _ _ _ _ c.loop-left.invariant.reached (omega arith) (search (rules, g)) (search (rules, g))))
 
-pub bounds-policy-owner-then-is_able : goal.bounds-policy-owner-then-is_able
-bounds-policy-owner-then-is_able c = owner_below _ _ c.requires.0 _ _ _ _ c.loop-left.invariant.reached
-
-pub bounds-policy-owner-then-is_able-2 : goal.bounds-policy-owner-then-is_able-2
-bounds-policy-owner-then-is_able-2 c = owner_below _ _ c.requires.0 _ _ _ _ c.loop-left.invariant.reached
-
-pub bounds-policy-owner-then-is_able-3 : goal.bounds-policy-owner-then-is_able-3
-bounds-policy-owner-then-is_able-3 c = owner_below _ _ c.requires.0 _ _ _ _ c.loop-left.invariant.reached
+pub stretch-requires-clause-owner_there : goal.stretch-requires-clause-owner_there
+stretch-requires-clause-owner_there c = rw c.from-owner.ensures (owner_below _ _ c.requires.0 _ _ _ _ c.loop-left.invariant.reached)
 
 pub stretch-requires-clause-seated : goal.stretch-requires-clause-seated
 stretch-requires-clause-seated c =
     let g = c.well_formed in
+    rw c.from-owner.ensures
+    (tick_fits _ _ c.requires.0 _ _ _ _ c.loop-left.invariant.reached (omega arith) (search (rules, g)) (search (rules, g)))
+
+pub stretch-requires-clause-few : goal.stretch-requires-clause-few
+stretch-requires-clause-few c =
     let inv = c.loop-left.invariant in
-    let in_room = room_in _ _ c.requires.0 _ _ _ _ _ _ inv c.lesser.result (omega (arith, c.lesser.ensures)) in (
-      tick_fits _ _ c.requires.0 _ _ _ _ inv.reached (omega arith) (search (rules, g)) (search (rules, g)),
-      omega (arith, many_few _ _ c.requires.0 _ _ _ _ inv.reached _ in_room),
-    )
+    let in_room = room_in _ _ c.requires.0 _ _ _ _ _ _ inv c.min.result (omega (arith, c.min.ensures)) in
+    omega (arith, many_few _ _ c.requires.0 _ _ _ _ inv.reached _ in_room)
 
 pub next_turn-turn-requires : goal.next_turn-turn-requires
 next_turn-turn-requires c = slot_in_lem _ _ c.requires.0 _ _ _ _ c.loop-left.invariant.reached
@@ -63,37 +60,36 @@ pub returns-then-left-room : goal.returns-then-left-room
 returns-then-left-room c =
     let t = tables_of c.args.policy in
     let l = c.loop-left in
-    let p = owner_of t (place_by t c.args.place.count c.args.n l.turn l.left) in
+    let here = place_by t c.args.place.count c.args.n l.turn l.left in
+    let p = owner_of t here in
     let save = get_or t.partitions.save p 0 in
     let few = c.if-left-room.true in
     let e : l.left ≡ min l.left l.turn.left = omega (arith, few) in
-    let done :
-    c.if-is_able.memory
-    ≡ ticked_by (seat (view_of t) p) (get_or t.partitions.code p 0) save (place_by t c.args.place.count c.args.n l.turn l.left).count l.left l.memory =
+    let done : c.if-is_able.memory ≡ ticked_of c.args.policy p here.count l.left l.memory =
     elim c.if-is_able.branch [
-      | then-is_able w ↦ w.memory-is ∙ (rw (w.wrapping_add_u32.ensures.value, w.lesser.ensures ∙ sym e) at w.stretch.ensures)
+      | then-is_able w ↦ w.memory-is ∙ (rw (c.from-owner.ensures, w.min.ensures ∙ sym e) at w.stretch.ensures)
       | else-is_able w ↦
           w.memory-is
-          ∙ sym (idle_ticks (seat (view_of t) p) _ save _ l.left l.memory (rw (← c.from.ensures) (sym c.is_able.ensures ∙ w.if-is_able.false)))
+          ∙ sym (idle_ticks (seat (view_of t) p) _ save _ l.left l.memory
+          (rw (← c.from-owner.ensures, ← c.from-save.ensures, ← c.from.ensures) (sym c.is_able.ensures ∙ w.if-is_able.false)))
     ] in
-    rw (c.place_with.ensures, c.wrapping_add_u32-end.ensures.value)
-    (ends_in _ _ c.requires.0 _ _ _ _ _ _ l.invariant few _ done).state
+    rw c.place_with.ensures (ends_in _ _ c.requires.0 _ _ _ _ _ _ l.invariant few _ done).state
 
 pub loop-left-preserved : goal.loop-left-preserved
 loop-left-preserved c =
     let t = tables_of c.args.policy in
     let l = c.loop-left in
-    let p = owner_of t (place_by t c.args.place.count c.args.n l.turn l.left) in
+    let here = place_by t c.args.place.count c.args.n l.turn l.left in
+    let p = owner_of t here in
     let save = get_or t.partitions.save p 0 in
     let few = c.if-left-room.false in
     let e : l.turn.left ≡ min l.left l.turn.left = omega (arith, few) in
-    let done :
-    c.if-is_able.memory
-    ≡ ticked_by (seat (view_of t) p) (get_or t.partitions.code p 0) save (place_by t c.args.place.count c.args.n l.turn l.left).count l.turn.left l.memory =
+    let done : c.if-is_able.memory ≡ ticked_of c.args.policy p here.count l.turn.left l.memory =
     elim c.if-is_able.branch [
-      | then-is_able w ↦ w.memory-is ∙ (rw (w.wrapping_add_u32.ensures.value, w.lesser.ensures ∙ sym e) at w.stretch.ensures)
+      | then-is_able w ↦ w.memory-is ∙ (rw (c.from-owner.ensures, w.min.ensures ∙ sym e) at w.stretch.ensures)
       | else-is_able w ↦
           w.memory-is
-          ∙ sym (idle_ticks (seat (view_of t) p) _ save _ l.turn.left l.memory (rw (← c.from.ensures) (sym c.is_able.ensures ∙ w.if-is_able.false)))
+          ∙ sym (idle_ticks (seat (view_of t) p) _ save _ l.turn.left l.memory
+          (rw (← c.from-owner.ensures, ← c.from-save.ensures, ← c.from.ensures) (sym c.is_able.ensures ∙ w.if-is_able.false)))
     ] in
     ends_slot _ _ c.requires.0 _ _ _ _ _ _ l.invariant few _ done _ c.next_turn-turn.ensures

@@ -4,7 +4,7 @@ use Rattle.savearea.specs.Next.{is_plain}
 use Rattle.kernel.proofs.stretch.goes_on.Goals as goal
 
 pub returns-then-next-lt-ASKING : goal.returns-then-next-lt-ASKING
-returns-then-next-lt-ASKING c = sym (c.requires.from_value c.if-next-lt-ASKING.true)
+returns-then-next-lt-ASKING c = sym (c.requires.plain_below c.if-next-lt-ASKING.true)
 
 pub returns-then-takes_interrupt : goal.returns-then-takes_interrupt
 unfolding is_plain

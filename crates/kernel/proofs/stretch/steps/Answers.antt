@@ -1,6 +1,6 @@
 -- Each turn is one tick more of the partition, at the next count and with the counter that the last one left. Each is plain, and the first has an
 -- instruction at its counter, so that one at least is done.
-use Rattle.std.proofs.Common.{◌≡◌, ℕ, ◌+◌, ◌<◌, ◌≤◌, ◌⊎◌, sym, refl, ◌∙◌, inl, inr, ⊎_elim, arith, rules}
+use Rattle.std.proofs.Common.{ℕ, ◌+◌, ◌<◌, ◌≤◌, ◌⊎◌, sym, ◌∙◌, inl, inr, ⊎_elim, arith, rules}
 use Rattle.kernel.proofs.Laws.Ticks.{none_yet, one_more}
 use Rattle.kernel.proofs.stretch.steps.Goals as goal
 
@@ -10,74 +10,40 @@ fewer left n room pc over = ⊎_elim (λ h. h) (λ h. absurd (omega arith))
 pub loop-left-init : goal.loop-left-init
 loop-left-init c =
     let p = c.requires in
-    (refl, (λ count h e. none_yet _ _ _ _ _ _ _), p.first_value.0, p.from_value.0, inr p.first_value.1, omega arith, search (rules, c.ranges))
+    record {
+      whole = p.whole;
+      done = λ count h e. none_yet _ _ _ _ _ _ _;
+      counter_is = p.counter_in_code.0;
+      plain = p.plain;
+      some_done = inr p.counter_in_code.1;
+      most = omega arith;
+      counter_fits = search (rules, c.ranges);
+    }
 
-pub overflow_cast-pc : goal.overflow_cast-pc
-overflow_cast-pc c = search (rules, c.loop-left.invariant.6)
+pub returns-then-seat-pc-clause-fewer : goal.returns-then-seat-pc-clause-fewer
+returns-then-seat-pc-clause-fewer c = fewer _ _ _ _ c.if-seat-pc.true c.loop-left.invariant.some_done
 
-pub overflow_add-pc : goal.overflow_add-pc
-overflow_add-pc c = search (rules, c.loop-left.invariant.6)
+pub returns-then-seat-pc-clause-ticked : goal.returns-then-seat-pc-clause-ticked
+returns-then-seat-pc-clause-ticked c = λ count h e. (c.loop-left.invariant.done count h e).memory
 
-pub shape_of-memory-then-room-pc : goal.shape_of-memory-then-room-pc
-shape_of-memory-then-room-pc c = c.loop-left.invariant.0
-
-pub returns-then-room-pc : goal.returns-then-room-pc
-returns-then-room-pc c =
+pub returns-then-not-goes_on-clause-ticked : goal.returns-then-not-goes_on-clause-ticked
+returns-then-not-goes_on-clause-ticked c =
     let v = c.loop-left.invariant in
-    (fewer _ _ _ _ (omega (arith, c.if-room-pc.true)) v.4, λ count h e. (v.1 count h e).memory)
-
-pub step-next-requires : goal.step-next-requires
-step-next-requires c =
-    let i = c in
-    let v = i.loop-left.invariant in
-    let p = i.requires in record {
-      save_size_in_bounds = rw v.0 p.save_size_in_bounds.0;
-      room_in_bounds = rw v.0 p.save_size_in_bounds.1;
-      inside = rw v.0 p.inside;
-      pc_value = (v.2, omega (arith, i.if-room-pc.false));
-      from_value = v.3;
-    }
-
-pub goes_on-requires : goal.goes_on-requires
-goes_on-requires c =
-    let t = c in
-    let v = t.loop-left.invariant in record {
-      save_size_in_bounds = search rules;
-      from_value = λ small. rw (t.step-next.ensures.1.1 small) v.3;
-    }
-
-pub returns-then-not-goes_on : goal.returns-then-not-goes_on
-returns-then-not-goes_on c =
-    let t = c in
-    let l = t in
-    let h = l.loop-left in
-    let p = l.requires in
-    let f = t in
-    let more = one_more _ _ _ _ _ _ _ _ _ _ _ l.loop-left-test.true h.invariant.5 p.from_value.2 (search rules) f.wrapping_sub_u32-at.ensures.value h.invariant.1 t.step-next.ensures.0 in
-    (omega (arith, l.loop-left-test.true, h.invariant.5), λ count q e. (more count q e).memory)
+    let more = one_more _ _ _ _ _ _ _ _ _ _ _ c.loop-left-test.true v.most c.requires.some_few.1 (search rules) (omega arith) v.done c.step-next.ensures.ticked in
+    λ count h e. (more count h e).memory
 
 pub loop-left-preserved : goal.loop-left-preserved
 loop-left-preserved c =
-    let t = c in
-    let l = t in
-    let h = l.loop-left in
-    let p = l.requires in
-    let f = t in (
-      search rules,
-      one_more _ _ _ _ _ _ _ _ _ _ _ l.loop-left-test.true h.invariant.5 p.from_value.2 (search rules) f.wrapping_sub_u32-at.ensures.value h.invariant.1 t.step-next.ensures.0,
-      t.step-next.ensures.1.0,
-      sym c.goes_on.ensures ∙ c.if-not-goes_on.false,
-      inl (omega (arith, l.loop-left-test.true, h.invariant.5)),
-      omega (arith, h.invariant.5),
-      omega arith,
-    )
+    let v = c.loop-left.invariant in
+    record {
+      whole = omega (arith, c.step-next.auto.memory, v.whole);
+      done = one_more _ _ _ _ _ _ _ _ _ _ _ c.loop-left-test.true v.most c.requires.some_few.1 (search rules) (omega arith) v.done c.step-next.ensures.ticked;
+      counter_is = c.step-next.ensures.hands.0;
+      plain = sym c.goes_on.ensures ∙ c.if-not-goes_on.false;
+      some_done = inl (omega (arith, c.loop-left-test.true, v.most));
+      most = omega (arith, v.most);
+      counter_fits = omega arith;
+    }
 
-pub shape_of-memory : goal.shape_of-memory
-shape_of-memory c = c.loop-left.invariant.0
-
-pub returns : goal.returns
-returns c =
-    let h = c.loop-left in
-    let p = c.requires in
-    let none : h.left ≡ 0 = omega (arith, c.loop-left-test.false) in
-    (rw none p.from_value.1, λ count q e. (h.invariant.1 count q e).memory)
+pub returns-clause-ticked : goal.returns-clause-ticked
+returns-clause-ticked c = λ count h e. (c.loop-left.invariant.done count h e).memory

@@ -3,14 +3,16 @@
 use Rattle.std.proofs.Common.{◌≡◌, true, length}
 use Rattle.machine.specs.Local.{is_able}
 use Rattle.parts.specs.Parts.{saved_at}
-use Rattle.tick.specs.Seat.{seat_of}
+use Rattle.tick.specs.At.{seat_at}
 use Rattle.kernel.proofs.Laws.Ticks.{Going}
-use Rattle.kernel.proofs.stretch.stretch.Given as goal
+use Rattle.kernel.proofs.stretch.stretch_at.Given as goal
 
 abbrev pub invariant-loop-left : goal.invariant-loop-left
-invariant-loop-left l = (length l.memory ≡ length l.initial.memory)
-    × Going (seat_of l.base l.size l.reads l.writes l.segments) l.from l.start l.room l.count l.n l.initial.memory l.left l.memory
-    × (is_able (saved_at l.memory l.from) ≡ true)
+invariant-loop-left l = record {
+  whole : length l.memory ≡ l.seat.whole;
+  going : Going (seat_at l.seat) l.seat.from l.seat.start l.seat.room l.count l.n l.initial.memory l.left l.memory;
+  able : is_able (saved_at l.memory l.seat.from) ≡ true;
+}
 
 abbrev pub decreases-loop-left : goal.decreases-loop-left
 decreases-loop-left l = l.left
