@@ -1,10 +1,12 @@
 -- The answers as C has them: numbers, with the record, the place, the masks or the sheet beside them.
-use Rattle.std.specs.Prelude.{◌≡◌, cond}
+use Rattle.std.specs.Prelude.{◌≡◌, cond, Result}
+use Rattle.std.specs.Result.{result_unwrap_or}
 use Rattle.policy.specs.Refusals.{number_of, line_number_of}
 use Rattle.policy.specs.Asked.{asked_number}
 use Rattle.policy.specs.Read.{Answer}
 use Rattle.policy.specs.Record.{tables_of}
-use Rattle.calls.specs.declared.Placed.{Placed}
+use Rattle.machine.specs.declared.Place.{Place}
+use Rattle.calls.specs.declared.Refused.{Refused}
 use Rattle.calls.specs.Outcomes.{outcome_number}
 use Rattle.reach.specs.declared.Report.{Report}
 use Rattle.reach.specs.declared.Answer.{Answer as Question}
@@ -21,8 +23,9 @@ pub record Tells (r : ReadResult) (a : Answer) : Type 0 where
   pub line : r.line ≡ line_number_of a.refusal
   pub policy : tables_of r.policy ≡ a.tables
 
-abbrev pub run_result : Placed → RunResult
-run_result answer = record { number = outcome_number answer.outcome; place = answer.place }
+-- With the place that a refused Start or Run returns.
+abbrev pub run_result : Place → Result Place Refused → RunResult
+run_result kept answer = record { number = outcome_number answer; place = result_unwrap_or answer kept }
 
 abbrev pub reach_result : Report → ReachResult
 reach_result report = record { number = asked_number report.asked; sources = report.rows }

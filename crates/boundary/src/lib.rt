@@ -9,7 +9,7 @@ ghost use Rattle.policy.specs.Record.{tables_of};
 ghost use Rattle.policy.specs.Sound.{sound_of};
 ghost use Rattle.calls.specs.Under.{under_policy};
 ghost use Rattle.calls.specs.Outcomes.{outcome_number};
-ghost use Rattle.calls.specs.Start.{start_answer, after_start};
+ghost use Rattle.calls.specs.Start.{start_place, start_answer, after_start};
 ghost use Rattle.calls.specs.Pend.{pend_outcome, after_pend};
 ghost use Rattle.calls.specs.Run.{state_of, run_answer, after_run};
 ghost use Rattle.reach.specs.Answers.{reach_answer, can_reach_answer};
@@ -17,6 +17,7 @@ ghost use Rattle.sheet.specs.Answer.{sheet_answer};
 ghost use Rattle.boundary.specs.Results.{Tells, run_result, reach_result, question_result, sheet_result};
 ghost use Rattle.boundary.specs.Version.{version};
 
+use calls::Refused;
 use machine::Place;
 use policy::Policy;
 
@@ -95,18 +96,25 @@ pub extern "C" fn sk_sound(policy: Policy) -> u32
     if sound::sound(&policy) { 1 } else { 0 }
 }
 
+// With the place that a refused Start or Run returns.
+fn run_result(answer: Result<Place, Refused>, kept: Place) -> RunResult
+    ensures { result ≡ run_result kept answer }
+{
+    match answer {
+        Ok(place) => RunResult { number: 0, place },
+        Err(refused) => RunResult {
+            number: u32::from(refused),
+            place: kept,
+        },
+    }
+}
+
 #[unsafe(no_mangle)]
 pub extern "C" fn sk_start(policy: Policy, memory: &mut [u8]) -> RunResult
-    ensures value { result ≡ run_result (start_answer (under_policy policy) memory.old) }
+    ensures value { result ≡ run_result start_place (start_answer (under_policy policy) memory.old) }
     ensures memory_after { memory.new ≡ after_start (under_policy policy) memory.old }
 {
-    let answer = kernel::start(policy, memory);
-    let outcome = answer.outcome;
-    let place = answer.place;
-    RunResult {
-        number: kernel::outcome_number(outcome),
-        place,
-    }
+    run_result(kernel::start(&policy, memory), kernel::START)
 }
 
 #[unsafe(no_mangle)]
@@ -114,21 +122,18 @@ pub extern "C" fn sk_pend(policy: Policy, memory: &mut [u8], partition: u32, lin
     ensures value { result ≡ outcome_number (pend_outcome (under_policy policy) memory.old partition line) }
     ensures memory_after { memory.new ≡ after_pend (under_policy policy) memory.old partition line }
 {
-    kernel::outcome_number(kernel::pend(policy, memory, partition, line))
+    match kernel::pend(&policy, memory, partition, line) {
+        Ok(()) => 0,
+        Err(refused) => u32::from(refused),
+    }
 }
 
 #[unsafe(no_mangle)]
 pub extern "C" fn sk_run(policy: Policy, memory: &mut [u8], place: Place, ticks: u32) -> RunResult
-    ensures value { result ≡ run_result (run_answer (under_policy policy) (state_of memory.old place) ticks) }
+    ensures value { result ≡ run_result place (run_answer (under_policy policy) (state_of memory.old place) ticks) }
     ensures memory_after { memory.new ≡ (after_run (under_policy policy) (state_of memory.old place) ticks).memory }
 {
-    let answer = kernel::run(policy, memory, place, ticks);
-    let outcome = answer.outcome;
-    let next = answer.place;
-    RunResult {
-        number: kernel::outcome_number(outcome),
-        place: next,
-    }
+    run_result(kernel::run(&policy, memory, place, ticks), place)
 }
 
 #[unsafe(no_mangle)]

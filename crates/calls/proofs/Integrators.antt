@@ -10,6 +10,7 @@ use mathlib.Core.List.{List, [], ◌∷◌}
 use lib.ListN.{length, get_or, drop, replicate}
 use lib.Seq.{sets, length-sets, get_or-take, get_or-drop, ext_get_or}
 use borrow.Author.Tests.{le-ltb, eq-eqb}
+use Rattle.std.specs.Prelude.{Ok, is_ok}
 use Rattle.policy.specs.Limits.{Limits}
 use Rattle.policy.specs.View.{View}
 use Rattle.policy.specs.Tables.{Tables, view_of}
@@ -22,25 +23,23 @@ use Rattle.machine.specs.Machine.{State, Stands}
 use Rattle.machine.proofs.Laws.Parts.{get_d_sets_other, with-sets}
 use Rattle.machine.proofs.Laws.Written.{part_put}
 use Rattle.calls.specs.Under.{Under, under}
-use Rattle.calls.specs.declared.Outcome.TheVariants.{Done}
-use Rattle.calls.specs.Outcomes.{is_done}
 use Rattle.calls.specs.Start.{start_outcome, start_answer, after_start, cleared}
 use Rattle.calls.specs.Pend.{with_line, pend_outcome, after_pend}
 use Rattle.calls.specs.Run.{most_ticks_of_run, run_outcome, after_ticks, after_run, run_answer}
 use Rattle.calls.specs.Lists.{Call, pend, run, step, exec}
 use Rattle.calls.specs.Integrators.{RunSplits, RunGoesOn, RunsJoin, PendAnswersAlone, PendTwice, PendsEitherOrder}
 use Rattle.calls.specs.Integrators.{SameOthers, StartForgets, StartAfterCalls}
-use Rattle.calls.proofs.Laws.Outcomes.{is_done_lem, run_stands, run_sound, start_whole, start_sound}
+use Rattle.calls.proofs.Laws.Outcomes.{is_ok_lem, run_stands, run_sound, start_whole, start_sound}
 use Rattle.calls.proofs.Laws.Pends.{line_again, line_swap, line_length}
 use Rattle.calls.proofs.Laws.Ticks.{ticks_stand, ticks_add}
 
 module _ (u : Under) where
   -- A Run that acts, and one that doesn't.
-  ran : (x : State) (n : ℕ) → run_outcome u x n ≡ Done → after_run u x n ≡ after_ticks u.view n x
+  ran : (x : State) (n : ℕ) → run_outcome u x n ≡ Ok tt → after_run u x n ≡ after_ticks u.view n x
   unfolding after_run
   ran x n e = rw e
 
-  stayed : (x : State) (n : ℕ) → is_done (run_outcome u x n) ≡ false → after_run u x n ≡ x
+  stayed : (x : State) (n : ℕ) → is_ok (run_outcome u x n) ≡ false → after_run u x n ≡ x
   unfolding after_run
   stayed x n e = rw e
 
@@ -57,11 +56,11 @@ module _ (limits : Limits) (tables : Tables) where
   abbrev U : Under
   U = under limits tables
 
-  acts_from : (x : State) (n : ℕ) → sound_of limits tables ≡ true → Stands limits (view_of tables) x → n ≤ most_ticks_of_run → run_outcome U x n ≡ Done
+  acts_from : (x : State) (n : ℕ) → sound_of limits tables ≡ true → Stands limits (view_of tables) x → n ≤ most_ticks_of_run → run_outcome U x n ≡ Ok tt
   unfolding run_outcome
   acts_from x n sound s few = rw (eq-eqb (length x.memory) limits.memory s.whole, sound, s.placed, le-ltb most_ticks_of_run n few)
 
-  after_stands : (x : State) (n : ℕ) → run_outcome U x n ≡ Done → Stands limits (view_of tables) (after_run U x n)
+  after_stands : (x : State) (n : ℕ) → run_outcome U x n ≡ Ok tt → Stands limits (view_of tables) (after_run U x n)
   after_stands x n done =
       rw (ran U x n done) (ticks_stand limits (view_of tables) n x (lawful limits tables (run_sound U x n done)) (run_stands U x n done))
 
@@ -82,30 +81,30 @@ run_splits limits tables x a b few =
     first = one_number u x a (a + b) (omega arith) few
 
     number : run_outcome u x (a + b) ≡ run_outcome u (after_run u x a) b
-    number = go (is_done (run_outcome u x a)) refl
+    number = go (is_ok (run_outcome u x a)) refl
       where
-        go : (c : Bool) → is_done (run_outcome u x a) ≡ c → run_outcome u x (a + b) ≡ run_outcome u (after_run u x a) b
+        go : (c : Bool) → is_ok (run_outcome u x a) ≡ c → run_outcome u x (a + b) ≡ run_outcome u (after_run u x a) b
         go true e =
-            let done = is_done_lem (run_outcome u x a) e in
+            let done = is_ok_lem (run_outcome u x a) e in
             sym first ∙ done ∙ sym (run_goes_on limits tables x a b done (omega arith))
         go false e = one_number u x (a + b) b few (omega arith) ∙ ap (λ s. run_outcome u s b) (sym (stayed u x a e))
 
     state : after_run u x (a + b) ≡ after_run u (after_run u x a) b
-    state = go (is_done (run_outcome u x a)) refl
+    state = go (is_ok (run_outcome u x a)) refl
       where
-        go : (c : Bool) → is_done (run_outcome u x a) ≡ c → after_run u x (a + b) ≡ after_run u (after_run u x a) b
+        go : (c : Bool) → is_ok (run_outcome u x a) ≡ c → after_run u x (a + b) ≡ after_run u (after_run u x a) b
         go true e =
-            let done = is_done_lem (run_outcome u x a) e in
+            let done = is_ok_lem (run_outcome u x a) e in
             ran u x (a + b) (sym first ∙ done) ∙ sym (runs_join u x a b done (run_goes_on limits tables x a b done (omega arith)))
         go false e =
-            stayed u x (a + b) (ap is_done (sym first) ∙ e)
+            stayed u x (a + b) (ap is_ok (sym first) ∙ e)
             ∙ sym (stayed u x a e)
-            ∙ sym (stayed u (after_run u x a) b (ap is_done (sym number ∙ sym first) ∙ e))
+            ∙ sym (stayed u (after_run u x a) b (ap is_ok (sym number ∙ sym first) ∙ e))
 
 module _ (u : Under) where
   pended-length : (m : List ℕ) (p line : ℕ) → length (after_pend u m p line) ≡ length m
   unfolding after_pend
-  pended-length m p line = go (is_done (pend_outcome u m p line))
+  pended-length m p line = go (is_ok (pend_outcome u m p line))
     where
       go : (b : Bool) → length (cond b (with_line u.view p line m) m) ≡ length m
       go true = line_length u.view p line m
@@ -119,7 +118,7 @@ pub pend_twice : PendTwice
 unfolding after_pend
 pend_twice u m p line =
     let same = pend_answers_alone u m p line p line in
-    (rw same (go (is_done (pend_outcome u m p line))), same)
+    (rw same (go (is_ok (pend_outcome u m p line))), same)
   where
     go : (b : Bool) → cond b (with_line u.view p line (cond b (with_line u.view p line m) m)) (cond b (with_line u.view p line m) m)
         ≡ cond b (with_line u.view p line m) m
@@ -131,7 +130,7 @@ unfolding after_pend
 pends_either_order u m p line q other =
     let later = pend_answers_alone u m p line q other in
     let sooner = pend_answers_alone u m q other p line in
-    (rw (later, sooner) (go (is_done (pend_outcome u m p line)) (is_done (pend_outcome u m q other))), sym sooner, later)
+    (rw (later, sooner) (go (is_ok (pend_outcome u m p line)) (is_ok (pend_outcome u m q other))), sym sooner, later)
   where
     one : Bool → List ℕ → List ℕ
     one b n = cond b (with_line u.view p line n) n
@@ -227,7 +226,7 @@ module _ (limits : Limits) (v : View) (W : Lawful limits v) where
       (λ at h. forgets all m n (omega arith) lm ln same at (λ p from below low high. omega arith))
 
 -- A Start that acts.
-started : (u : Under) (m : List ℕ) → start_outcome u m ≡ Done → after_start u m ≡ cleared u.view u.view.partitions m
+started : (u : Under) (m : List ℕ) → start_outcome u m ≡ Ok tt → after_start u m ≡ cleared u.view u.view.partitions m
 unfolding after_start
 started u m e = rw e
 
@@ -255,14 +254,14 @@ module _ (limits : Limits) (tables : Tables) where
   step_long : (c : Call) (x : State) → length (step (under limits tables) c x).memory ≡ length x.memory
   unfolding step
   step_long (pend p line) x = pended-length (under limits tables) x.memory p line
-  step_long (run n) x = go (is_done (run_outcome (under limits tables) x n)) refl
+  step_long (run n) x = go (is_ok (run_outcome (under limits tables) x n)) refl
     where
       u : Under
       u = under limits tables
 
-      go : (b : Bool) → is_done (run_outcome u x n) ≡ b → length (after_run u x n).memory ≡ length x.memory
+      go : (b : Bool) → is_ok (run_outcome u x n) ≡ b → length (after_run u x n).memory ≡ length x.memory
       go true e =
-          let done = is_done_lem (run_outcome u x n) e in
+          let done = is_ok_lem (run_outcome u x n) e in
           (after_stands limits tables x n done).whole ∙ sym (run_stands u x n done).whole
       go false e = ap (λ (s : State). length s.memory) (stayed u x n e)
 

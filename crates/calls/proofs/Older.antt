@@ -4,12 +4,13 @@ use native.Mathlib.Omega.{arith}
 use native.Mathlib.Decide.{ℕ_discrete}
 use mathlib.Core.Path.{◌≡◌, refl, sym, ◌∙◌, ap}
 use mathlib.Core.Bool.{Bool, true, false, cond}
+use Rattle.std.specs.Prelude.{Ok, is_ok}
+use Rattle.std.specs.Result.{result_and}
 use Rattle.policy.specs.View.{View}
 use Rattle.machine.specs.Decode.{last_opcode, last_opcode_of_01, last_opcode_before_s8}
 use Rattle.machine.specs.Machine.{State, next, next_up_to}
 use Rattle.machine.proofs.Older.{older_tick}
 use Rattle.calls.specs.Under.{Under}
-use Rattle.calls.specs.Outcomes.{is_done}
 use Rattle.calls.specs.Run.{run_outcome, after_ticks, after_run, run_answer}
 use Rattle.calls.specs.Lists.{did}
 use Rattle.calls.specs.Older.{after_ticks_up_to, after_run_up_to, run_answer_up_to, Older, Unfetched, GoesAsOn, FetchesNeither, OldOpcodes}
@@ -28,15 +29,15 @@ this_machine v n x = sym (older last_opcode (omega arith) v n x (λ k below op a
 module _ (last : ℕ) (k : last ≤ last_opcode) (u : Under) (x : State) (n : ℕ) (free : (op : ℕ) → last < op → op ≤ last_opcode → Unfetched op u x n) where
   older_run : after_run u x n ≡ after_run_up_to last u x n
   unfolding after_run after_run_up_to did
-  older_run = go (is_done (run_outcome u x n)) refl
+  older_run = go (is_ok (run_outcome u x n)) refl
     where
-      go : (b : Bool) → is_done (run_outcome u x n) ≡ b → cond b (after_ticks u.view n x) x ≡ cond b (after_ticks_up_to last u.view n x) x
+      go : (b : Bool) → is_ok (run_outcome u x n) ≡ b → cond b (after_ticks u.view n x) x ≡ cond b (after_ticks_up_to last u.view n x) x
       go true done = older last k u.view n x (λ i below op above most. free op above most i (rw done below))
       go false done = refl
 
   goes_as_on : GoesAsOn last u x n
   unfolding run_answer run_answer_up_to
-  goes_as_on = (ap (λ y. record { outcome = run_outcome u x n; place = y.place }) older_run, older_run)
+  goes_as_on = (ap (λ y. result_and (run_outcome u x n) (Ok y.place)) older_run, older_run)
 
 -- 13, 14 and 15 are all that is above 12 and up to 15, and 15 all that is above 14.
 pub fetches_neither : FetchesNeither

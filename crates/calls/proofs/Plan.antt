@@ -7,15 +7,14 @@ use mathlib.Core.Bool.{Bool, true, false, cond}
 use mathlib.Core.Logic.{◌⊎◌, inl, inr, ⊎_elim}
 use mathlib.Core.List.Memᴰ
 use mathlib.Core.List.{List, [], ◌∷◌, ◌++◌, Memᴰ}
+use Rattle.std.specs.Prelude.{Ok, is_ok}
 use Rattle.policy.specs.View.{View}
 use Rattle.machine.specs.Machine.{State, next}
 use Rattle.calls.specs.Under.{Under}
-use Rattle.calls.specs.declared.Outcome.TheVariants.{Done}
-use Rattle.calls.specs.Outcomes.{is_done}
 use Rattle.calls.specs.Pend.{with_line, pend_outcome, after_pend}
 use Rattle.calls.specs.Run.{state_of, after_ticks, run_outcome, after_run}
 use Rattle.calls.specs.Lists.{Call, pend, run, step, exec, did, ticks, PendedAfter}
-use Rattle.calls.proofs.Laws.Outcomes.{is_done_lem}
+use Rattle.calls.proofs.Laws.Outcomes.{is_ok_lem}
 
 -- A Pend that acts: the partition and the line.
 abbrev pub Pend : Type 0
@@ -96,7 +95,7 @@ module _ (u : Under) where
   -- Which Pends of a list act after k ticks.
   pub gaps : List Call → State → Gaps
   gaps [] x k = []
-  gaps (pend p line ∷ cs) x k = ahead (is_done (pend_outcome u x.memory p line)) (p, line) (gaps cs (step u (pend p line) x)) k
+  gaps (pend p line ∷ cs) x k = ahead (is_ok (pend_outcome u x.memory p line)) (p, line) (gaps cs (step u (pend p line) x)) k
   gaps (run n ∷ cs) x k = later (did u (run n) x) (gaps cs (step u (run n) x)) k
 
   -- What a list does is what its normal form does.
@@ -107,28 +106,28 @@ module _ (u : Under) where
       let y : State = step u (pend p line) x in
       rw zero-add
       (exec_plan cs y
-      ∙ sym (plan_ahead u.view (is_done (pend_outcome u x.memory p line)) (ticks u cs y) (p, line) (gaps cs y) x))
+      ∙ sym (plan_ahead u.view (is_ok (pend_outcome u x.memory p line)) (ticks u cs y) (p, line) (gaps cs y) x))
   exec_plan (run n ∷ cs) x =
       let y : State = step u (run n) x in
       exec_plan cs y
-      ∙ sym (plan_run u.view (is_done (run_outcome u x n)) n (ticks u cs y) (gaps cs y) x)
+      ∙ sym (plan_run u.view (is_ok (run_outcome u x n)) n (ticks u cs y) (gaps cs y) x)
 
   -- A Pend that acts, after k ticks, stands in gap k.
-  has : (before after : List Call) (x : State) (p line : ℕ) → pend_outcome u (exec u before x).memory p line ≡ Done
+  has : (before after : List Call) (x : State) (p line : ℕ) → pend_outcome u (exec u before x).memory p line ≡ Ok tt
       → Memᴰ (p, line) (gaps (before ++ (pend p line ∷ after)) x (ticks u before x))
   unfolding exec ticks gaps did ahead
   has [] after x p line h = rw h (Memᴰ.head refl)
   has (pend q j ∷ cs) after x p line h =
       let y : State = step u (pend q j) x in
       rw zero-add
-      (ahead_keeps (is_done (pend_outcome u x.memory q j)) (q, j) (gaps (cs ++ (pend p line ∷ after)) y) (ticks u cs y)
+      (ahead_keeps (is_ok (pend_outcome u x.memory q j)) (q, j) (gaps (cs ++ (pend p line ∷ after)) y) (ticks u cs y)
       (has cs after y p line h))
   has (run n ∷ cs) after x p line h = rw later_at (has cs after (step u (run n) x) p line h)
 
   pub pended→has : {cs : List Call} {x : State} {k p line : ℕ} → PendedAfter u cs x k p line → Memᴰ (p, line) (gaps cs x k)
   pended→has {cs} {x} {k} {p} {line} h = rw (h.stands, ← h.ticks_before) (has h.before h.later x p line h.not_refused)
 
-  here : {cs : List Call} {x : State} {k p line q j : ℕ} → pend_outcome u x.memory q j ≡ Done → k ≡ 0 → ◌≡◌ {A = Pend} (p, line) (q, j)
+  here : {cs : List Call} {x : State} {k p line q j : ℕ} → pend_outcome u x.memory q j ≡ Ok tt → k ≡ 0 → ◌≡◌ {A = Pend} (p, line) (q, j)
       → PendedAfter u (pend q j ∷ cs) x k p line
   unfolding exec ticks
   here {cs} {x} {k} {p} {line} {q} {j} e z i =
@@ -154,9 +153,9 @@ module _ (u : Under) where
   has→pended (pend q j ∷ cs) x k p line h =
       let y : State = step u (pend q j) x in
       ⊎_elim
-      (λ w. here (is_done_lem (pend_outcome u x.memory q j) w.0) w.1 w.2)
+      (λ w. here (is_ok_lem (pend_outcome u x.memory q j) w.0) w.1 w.2)
       (λ t. further (zero-add k) (has→pended cs y k p line t))
-      (ahead_cases (is_done (pend_outcome u x.memory q j)) (q, j) (gaps cs y) k h)
+      (ahead_cases (is_ok (pend_outcome u x.memory q j)) (q, j) (gaps cs y) k h)
   has→pended (run n ∷ cs) x k p line h =
       let y : State = step u (run n) x in
       let w = later_cases (did u (run n) x) k (gaps cs y) h in

@@ -7,6 +7,7 @@ use mathlib.Core.Bool.{Bool, true, false, cond}
 use mathlib.Core.Logic.{inl, inr, ◌↔◌}
 use mathlib.Core.List.{List, [], ◌∷◌, Memᴰ}
 use lib.ListN.{length}
+use Rattle.std.specs.Prelude.{is_ok}
 use Rattle.policy.specs.Limits.{Limits}
 use Rattle.policy.specs.View.{View}
 use Rattle.policy.specs.Tables.{view_of}
@@ -17,11 +18,10 @@ use Rattle.machine.specs.Place.{is_place, moved}
 use Rattle.machine.specs.Machine.{State, Stands, select, next}
 use Rattle.machine.proofs.OneTick.{separation, next_stands}
 use Rattle.calls.specs.Under.{Under, under}
-use Rattle.calls.specs.Outcomes.{is_done}
 use Rattle.calls.specs.Run.{state_of, after_ticks, run_outcome, after_run}
 use Rattle.calls.specs.Lists.{Call, pend, run, step, exec, did, ticks, SamePended, Source}
 use Rattle.calls.specs.Separation.{OneTick, EndAlike, WholeRuns}
-use Rattle.calls.proofs.Laws.Outcomes.{is_done_lem, pend_partition, run_place}
+use Rattle.calls.proofs.Laws.Outcomes.{is_ok_lem, pend_partition, run_place}
 use Rattle.calls.proofs.Plan.{Pend, Gaps, filled, plan, gaps, exec_plan, pended→has, has→pended}
 use Rattle.calls.proofs.Gap.{Named, pends_length, gap_same}
 
@@ -99,11 +99,11 @@ module _ (u : Under) where
   unfolding ticks did step after_run
   ticks_placed [] x h = absurd (omega arith)
   ticks_placed (pend p line ∷ cs) x h = ticks_placed cs (step u (pend p line) x) (omega arith)
-  ticks_placed (run n ∷ cs) x h = go (is_done (run_outcome u x n)) refl h (λ i. ticks_placed cs x i)
+  ticks_placed (run n ∷ cs) x h = go (is_ok (run_outcome u x n)) refl h (λ i. ticks_placed cs x i)
     where
-      go : (b : Bool) → is_done (run_outcome u x n) ≡ b → 0 < cond b n 0 + ticks u cs (cond b (after_ticks u.view n x) x)
+      go : (b : Bool) → is_ok (run_outcome u x n) ≡ b → 0 < cond b n 0 + ticks u cs (cond b (after_ticks u.view n x) x)
           → (0 < ticks u cs x → is_place u.view x.place ≡ true) → is_place u.view x.place ≡ true
-      go true e i below = run_place u x n (is_done_lem (run_outcome u x n) e)
+      go true e i below = run_place u x n (is_ok_lem (run_outcome u x n) e)
       go false e i below = below (omega arith)
 
   gaps_named : (cs : List Call) (x : State) (k : ℕ) → Named u.view (gaps u cs x k)

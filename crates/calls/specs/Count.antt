@@ -1,12 +1,13 @@
 -- 02, S-8: "a count of ticks since Start, modulo 4,294,967,296, which Start, refused too, sets to 0 and each tick raises".
 -- Statements; the proofs are in proofs/.
 use Rattle.std.specs.Prelude.{ℕ, ◌<◌, ◌≡◌, List}
+use Rattle.std.specs.Result.{result_unwrap_or}
 use Rattle.policy.specs.View.{View}
 use Rattle.machine.specs.Place.{counts, count_after}
 use Rattle.machine.specs.Machine.{State}
 use Rattle.machine.specs.Fetches.{Fetches}
 use Rattle.calls.specs.Under.{Under}
-use Rattle.calls.specs.Start.{start_answer, after_start}
+use Rattle.calls.specs.Start.{start_place, start_answer, after_start}
 use Rattle.calls.specs.Run.{state_of, after_ticks}
 use Rattle.calls.specs.Lists.{Call, exec, ticks}
 
@@ -21,7 +22,7 @@ Counted =
 abbrev pub Started : Type 0
 Started =
     (u : Under) (memory : List ℕ) (cs : List Call) →
-    let x = state_of (after_start u memory) (start_answer u memory).place in
+    let x = state_of (after_start u memory) (result_unwrap_or (start_answer u memory) start_place) in
     (exec u cs x).place.count ≡ count_after (ticks u cs x) 0
 
 -- Two states that may differ in the count, and in nothing else.

@@ -1,13 +1,12 @@
 -- What someone who calls the operations may rely on when joining, repeating, exchanging and beginning anew: consequences of
 -- 01's rules for Start, Pend and Run. Statements; the proofs are in proofs/.
-use Rattle.std.specs.Prelude.{ℕ, ◌+◌, ◌≤◌, ◌<◌, ◌≡◌, List, length, get_or}
+use Rattle.std.specs.Prelude.{ℕ, ◌+◌, ◌≤◌, ◌<◌, ◌≡◌, List, length, get_or, Ok}
 use Rattle.policy.specs.Limits.{Limits}
 use Rattle.policy.specs.View.{View}
 use Rattle.policy.specs.Tables.{Tables, view_of}
 use Rattle.machine.specs.Layout.{layout}
 use Rattle.machine.specs.Machine.{State}
 use Rattle.calls.specs.Under.{Under, under}
-use Rattle.calls.specs.declared.Outcome.TheVariants.{Done}
 use Rattle.calls.specs.Start.{start_outcome, start_answer, after_start}
 use Rattle.calls.specs.Pend.{pend_outcome, after_pend}
 use Rattle.calls.specs.Run.{most_ticks_of_run, run_outcome, after_ticks, after_run, run_answer}
@@ -33,14 +32,14 @@ RunSplits =
 abbrev pub RunGoesOn : Type 0
 RunGoesOn =
     (limits : Limits) (tables : Tables) (x : State) (a b : ℕ) →
-    run_outcome (under limits tables) x a ≡ Done → b ≤ most_ticks_of_run →
-    run_outcome (under limits tables) (after_run (under limits tables) x a) b ≡ Done
+    run_outcome (under limits tables) x a ≡ Ok tt → b ≤ most_ticks_of_run →
+    run_outcome (under limits tables) (after_run (under limits tables) x a) b ≡ Ok tt
 
 -- Two Runs that act, one after the other, leave what a + b ticks leave, also where one Run of so many is refused by 14.
 abbrev pub RunsJoin : Type 0
 RunsJoin =
     (u : Under) (x : State) (a b : ℕ) →
-    run_outcome u x a ≡ Done → run_outcome u (after_run u x a) b ≡ Done →
+    run_outcome u x a ≡ Ok tt → run_outcome u (after_run u x a) b ≡ Ok tt →
     after_run u (after_run u x a) b ≡ after_ticks u.view (a + b) x
 
 -- No Pend decides what a later one answers, since each answers by the length of memory alone, and keeps it. Of every record,
@@ -79,7 +78,7 @@ pub record SameOthers (v : View) (m n : List ℕ) : Type 0 where
 -- What Start does to two memories: the same answer, and where it acts the same memory. Where it refuses, each memory stays.
 pub record StartsAlike (u : Under) (m n : List ℕ) : Type 0 where
   pub same_answer : start_answer u m ≡ start_answer u n
-  pub same_memory : start_outcome u m ≡ Done → after_start u m ≡ after_start u n
+  pub same_memory : start_outcome u m ≡ Ok tt → after_start u m ≡ after_start u n
 
 -- "all save segments become zero, other bytes stay": Start forgets what the save segments held, all 44 bytes of each.
 abbrev pub StartForgets : Type 0
@@ -94,5 +93,5 @@ StartAfterCalls =
     (limits : Limits) (tables : Tables) (cs : List Call) (x : State) →
     let u = under limits tables in
     (start_answer u (exec u cs x).memory ≡ start_answer u x.memory)
-    × ((n : List ℕ) → SameOthers (view_of tables) (exec u cs x).memory n → start_outcome u x.memory ≡ Done →
+    × ((n : List ℕ) → SameOthers (view_of tables) (exec u cs x).memory n → start_outcome u x.memory ≡ Ok tt →
     after_start u (exec u cs x).memory ≡ after_start u n)

@@ -1,10 +1,9 @@
 -- 01, "Separation over whole runs": lists of Pend and Run calls under one policy, and when a line is pended.
-use Rattle.std.specs.Prelude.{ℕ, ◌+◌, ◌≤◌, ◌≡◌, ◌⊎◌, ◌↔◌, List, [], ◌∷◌, ◌++◌}
+use Rattle.std.specs.Prelude.{ℕ, ◌+◌, ◌≤◌, ◌≡◌, ◌⊎◌, ◌↔◌, List, [], ◌∷◌, ◌++◌, Ok}
 use Rattle.policy.specs.View.{View}
 use Rattle.policy.specs.Chain.{Chain}
 use Rattle.machine.specs.Machine.{State}
 use Rattle.calls.specs.Under.{Under}
-use Rattle.calls.specs.declared.Outcome.TheVariants.{Done}
 use Rattle.calls.specs.Outcomes.{acts}
 use Rattle.calls.specs.Pend.{pend_outcome, after_pend}
 use Rattle.calls.specs.Run.{state_of, run_outcome, after_run}
@@ -42,7 +41,7 @@ module _ (u : Under) where
     pub later : List Call
     pub stands : cs ≡ before ++ (pend p line ∷ later)
     pub ticks_before : ticks before x ≡ k
-    pub not_refused : pend_outcome u (exec before x).memory p line ≡ Done
+    pub not_refused : pend_outcome u (exec before x).memory p line ≡ Ok tt
 
   -- ""The same lines pended between the same ticks" means: for each k from 0 to the ticks in all, the same lines are
   -- pended for p after k ticks in both lists."

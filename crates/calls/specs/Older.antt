@@ -1,13 +1,15 @@
 -- 02, S-2: "A run that fetches neither goes as it did"; S-8: "Old opcodes act as they did". Ticks and Runs of the machine
 -- whose highest opcode is `last`, and that those of this machine are the same where no opcode between the two is fetched.
 -- The proofs are in proofs/.
-use Rattle.std.specs.Prelude.{ℕ, zero, suc, ◌≤◌, ◌<◌, ◌≡◌}
+use Rattle.std.specs.Prelude.{ℕ, zero, suc, ◌≤◌, ◌<◌, ◌≡◌, Ok, Result}
+use Rattle.std.specs.Result.{result_and}
 use Rattle.policy.specs.View.{View}
+use Rattle.machine.specs.declared.Place.{Place}
 use Rattle.machine.specs.Decode.{last_opcode, last_opcode_of_01, last_opcode_before_s8}
 use Rattle.machine.specs.Machine.{State, next_up_to}
 use Rattle.machine.specs.Fetches.{Fetches}
 use Rattle.calls.specs.Under.{Under}
-use Rattle.calls.specs.declared.Placed.{Placed}
+use Rattle.calls.specs.declared.Refused.{Refused}
 use Rattle.calls.specs.Outcomes.{acts}
 use Rattle.calls.specs.Run.{run_outcome, after_ticks, after_run, run_answer}
 use Rattle.calls.specs.Lists.{run, did}
@@ -21,8 +23,8 @@ after_ticks_up_to last v (suc n) x = after_ticks_up_to last v n (next_up_to v la
 unfoldable pub after_run_up_to : ℕ → Under → State → ℕ → State
 after_run_up_to last u x n = acts (run_outcome u x n) (after_ticks_up_to last u.view n x) x
 
-unfoldable pub run_answer_up_to : ℕ → Under → State → ℕ → Placed
-run_answer_up_to last u x n = record { outcome = run_outcome u x n; place = (after_run_up_to last u x n).place }
+unfoldable pub run_answer_up_to : ℕ → Under → State → ℕ → Result Place Refused
+run_answer_up_to last u x n = result_and (run_outcome u x n) (Ok (after_run_up_to last u x n).place)
 
 -- No tick of the n fetches an opcode above `last` and up to this machine's highest. Opcodes above that are fault 2 on both.
 abbrev pub NoneBetween : ℕ → View → ℕ → State → Type 0

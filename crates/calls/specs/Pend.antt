@@ -1,14 +1,13 @@
 -- 01: "Pend a line. 9, 10, then 11: no such partition. 12: line above 7. Else that pended bit becomes 1 and no other
 -- bit of memory changes."
-use Rattle.std.specs.Prelude.{ℕ, ◌+◌, ◌^◌, List, [], ◌∷◌, get_or, set, leb, ltb}
+use Rattle.std.specs.Prelude.{ℕ, ◌+◌, ◌^◌, List, [], ◌∷◌, get_or, set, leb, ltb, Ok, Err}
 use Rattle.std.specs.Int.Bits.{bit_or}
 use Rattle.policy.specs.First.{first_of}
 use Rattle.policy.specs.View.{View}
 use Rattle.machine.specs.Layout.{layout}
 use Rattle.calls.specs.Under.{Under}
-use Rattle.calls.specs.declared.Outcome.{Outcome}
-use Rattle.calls.specs.declared.Outcome.TheVariants.{Done, WrongMemory, Unsound, NoPartition, NoLine}
-use Rattle.calls.specs.Outcomes.{wrong_memory, unsound, acts}
+use Rattle.calls.specs.declared.Refused.TheVariants.{WrongMemory, Unsound, NoPartition, NoLine}
+use Rattle.calls.specs.Outcomes.{Outcome, wrong_memory, unsound, acts}
 
 -- Lines are numbered from 0; 12: "line above 7"
 abbrev pub last_line : ℕ
@@ -16,11 +15,11 @@ last_line = 7
 
 unfoldable pub pend_outcome : Under → List ℕ → ℕ → ℕ → Outcome
 pend_outcome u memory partition line =
-    first_of Done
-    (record { applies = wrong_memory u.limits memory; answer = WrongMemory }
-    ∷ record { applies = unsound u; answer = Unsound }
-    ∷ record { applies = leb u.view.partitions partition; answer = NoPartition }
-    ∷ record { applies = ltb last_line line; answer = NoLine }
+    first_of (Ok tt)
+    (record { applies = wrong_memory u.limits memory; answer = Err WrongMemory }
+    ∷ record { applies = unsound u; answer = Err Unsound }
+    ∷ record { applies = leb u.view.partitions partition; answer = Err NoPartition }
+    ∷ record { applies = ltb last_line line; answer = Err NoLine }
     ∷ [])
 
 -- Where the pended lines of a partition stand.

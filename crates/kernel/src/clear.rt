@@ -8,51 +8,35 @@ ghost use Rattle.calls.specs.Under.{under_policy};
 ghost use Rattle.calls.specs.Start.{cleared, start_answer, after_start};
 
 use crate::save::save_from;
-use calls::{Outcome, Placed};
+use crate::tested::tested;
+use calls::Refused;
 use machine::Place;
-use octets::clear;
-use policy::{MEMORY, Policy, SAVE_SIZE};
-use validate::passes_test;
+use policy::{Policy, SAVE_SIZE};
 
-fn clear_saves(policy: Policy, memory: &mut [u8])
-    requires { (sound_of single (tables_of policy) ≡ true) × (length memory.old ≡ single.memory) }
+// The place of a Start, refused too.
+pub const START: Place = Place {
+    slot: 0,
+    used: 0,
+    count: 0,
+};
+
+fn clear_saves(policy: &Policy, memory: &mut [u8])
+    requires sound { sound_of single (tables_of policy.now) ≡ true }
+    requires whole { length memory.old ≡ single.memory }
     ensures { memory.new
-        ≡ cleared (view_of (tables_of policy)) policy.partitions memory.old }
+        ≡ cleared (view_of (tables_of policy.now)) policy.now.partitions memory.old }
 {
-    let count = policy.partitions as usize;
-    let mut i = 0;
-    while i < count {
-        let from = save_from(&policy.base, &policy.save, i) as usize;
-        let to = from + SAVE_SIZE;
-        clear(&mut memory[from..to]);
-        i += 1;
+    for partition in 0..usize::from(policy.partitions) {
+        let from = save_from(policy, partition);
+        memory[from..from + SAVE_SIZE].fill(0);
     }
 }
 
-pub fn start(policy: Policy, memory: &mut [u8]) -> Placed
-    ensures { (result ≡ start_answer (under_policy policy) memory.old)
-        × (memory.new ≡ after_start (under_policy policy) memory.old) }
+pub fn start(policy: &Policy, memory: &mut [u8]) -> Result<Place, Refused>
+    ensures answer { result ≡ start_answer (under_policy policy.now) memory.old }
+    ensures memory_after { memory.new ≡ after_start (under_policy policy.now) memory.old }
 {
-    let place = Place {
-        slot: 0,
-        used: 0,
-        count: 0,
-    };
-    if memory.len() != MEMORY {
-        return Placed {
-            outcome: Outcome::WrongMemory,
-            place,
-        };
-    }
-    if !passes_test(&policy) {
-        return Placed {
-            outcome: Outcome::Unsound,
-            place,
-        };
-    }
+    tested(policy, memory)?;
     clear_saves(policy, memory);
-    Placed {
-        outcome: Outcome::Done,
-        place,
-    }
+    Ok(START)
 }

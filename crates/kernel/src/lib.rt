@@ -2,14 +2,13 @@
 // and acts where none applies.
 #![tactic(auto)]
 
-mod answer;
 mod clear;
 mod line;
 mod running;
 mod save;
 mod stretch;
+mod tested;
 
-pub use answer::outcome_number;
-pub use clear::start;
+pub use clear::{START, start};
 pub use line::pend;
 pub use running::run;

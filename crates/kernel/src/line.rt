@@ -4,31 +4,24 @@ ghost use Rattle.calls.specs.Under.{under_policy};
 ghost use Rattle.calls.specs.Pend.{pend_outcome, after_pend};
 
 use crate::save::save_from;
-use calls::Outcome;
+use crate::tested::tested;
+use calls::Refused;
 use machine::LAST_LINE;
-use octets::{entry_or, put};
-use policy::{MEMORY, Policy};
+use policy::Policy;
 use savearea::layout::PENDED;
-use validate::passes_test;
 
-pub fn pend(policy: Policy, memory: &mut [u8], partition: u32, line: u32) -> Outcome
-    ensures { (result ≡ pend_outcome (under_policy policy) memory.old partition line)
-        × (memory.new ≡ after_pend (under_policy policy) memory.old partition line) }
+pub fn pend(policy: &Policy, memory: &mut [u8], partition: u32, line: u32) -> Result<(), Refused>
+    ensures outcome { result ≡ pend_outcome (under_policy policy.now) memory.old partition line }
+    ensures memory_after { memory.new ≡ after_pend (under_policy policy.now) memory.old partition line }
 {
-    if memory.len() != MEMORY {
-        return Outcome::WrongMemory;
-    }
-    if !passes_test(&policy) {
-        return Outcome::Unsound;
-    }
-    if policy.partitions as u32 <= partition {
-        return Outcome::NoPartition;
+    tested(policy, memory)?;
+    if u32::from(policy.partitions) <= partition {
+        return Err(Refused::NoPartition);
     }
     if LAST_LINE < line {
-        return Outcome::NoLine;
+        return Err(Refused::NoLine);
     }
-    let at = save_from(&policy.base, &policy.save, partition as usize) as usize + PENDED;
-    let lines = entry_or(memory, at, 0);
-    put(memory, at, lines | (1u8 << line));
-    Outcome::Done
+    let at = save_from(policy, partition as usize) + PENDED;
+    memory[at] |= 1u8 << line;
+    Ok(())
 }

@@ -9,12 +9,12 @@ ghost use Rattle.calls.specs.Under.{under_policy};
 ghost use Rattle.calls.specs.Run.{state_of, after_ticks, run_answer, after_run};
 
 use crate::stretch::stretch;
-use calls::{Outcome, Placed};
+use crate::tested::tested;
+use calls::Refused;
 use machine::{MOST_TICKS_OF_RUN, Place};
 use parts::is_able;
-use policy::{MEMORY, Policy};
+use policy::Policy;
 use schedule::{is_place, next_turn, place_with, turn_at};
-use validate::passes_test;
 
 fn run_ticks(policy: Policy, memory: &mut [u8], place: Place, n: u32) -> Place
     requires { (sound_of single (tables_of policy) ≡ true)
@@ -47,36 +47,16 @@ fn run_ticks(policy: Policy, memory: &mut [u8], place: Place, n: u32) -> Place
     place_with(&policy.ticks, turn.slot, turn.left, end)
 }
 
-pub fn run(policy: Policy, memory: &mut [u8], place: Place, n: u32) -> Placed
-    ensures { (result ≡ run_answer (under_policy policy) (state_of memory.old place) n)
-        × (memory.new ≡ (after_run (under_policy policy) (state_of memory.old place) n).memory) }
+pub fn run(policy: &Policy, memory: &mut [u8], place: Place, n: u32) -> Result<Place, Refused>
+    ensures answer { result ≡ run_answer (under_policy policy.now) (state_of memory.old place) n }
+    ensures memory_after { memory.new ≡ (after_run (under_policy policy.now) (state_of memory.old place) n).memory }
 {
-    if memory.len() != MEMORY {
-        return Placed {
-            outcome: Outcome::WrongMemory,
-            place,
-        };
-    }
-    if !passes_test(&policy) {
-        return Placed {
-            outcome: Outcome::Unsound,
-            place,
-        };
-    }
+    tested(policy, memory)?;
     if !is_place(&policy.ticks, policy.slots, place) {
-        return Placed {
-            outcome: Outcome::NoPlace,
-            place,
-        };
+        return Err(Refused::NoPlace);
     }
     if MOST_TICKS_OF_RUN < n {
-        return Placed {
-            outcome: Outcome::TooManyTicks,
-            place,
-        };
+        return Err(Refused::TooManyTicks);
     }
-    Placed {
-        outcome: Outcome::Done,
-        place: run_ticks(policy, memory, place, n),
-    }
+    Ok(run_ticks(*policy, memory, place, n))
 }

@@ -1,7 +1,7 @@
 // A block of lines, obeyed one after another on a memory of zeros.
 use crate::file::show_verdict;
 use crate::row::{is_answered, is_changed, stripped};
-use calls::Placed;
+use calls::Refused;
 use machine::Place;
 use policy::{MEMORY, Policy};
 use script::{
@@ -26,12 +26,11 @@ fn checked(stand: Stand, right: bool) -> Stand {
     next
 }
 
-fn answered(stand: Stand, answer: Placed) -> Stand {
-    let outcome = answer.outcome;
-    let place = answer.place;
+// With the place that a refused Start or Run returns.
+fn answered(stand: Stand, answer: Result<Place, Refused>, kept: Place) -> Stand {
     Stand {
-        place,
-        number: kernel::outcome_number(outcome),
+        place: answer.unwrap_or(kept),
+        number: answer.err().map_or(0, u32::from),
         checks: stand.checks,
         right: stand.right,
     }
@@ -90,13 +89,15 @@ fn step(base: &[u8], policy: Policy, memory: &mut [u8], line: &[u8], stand: Stan
         return stand;
     }
     if same(line, b"start") {
-        return answered(stand, kernel::start(policy, memory));
+        return answered(stand, kernel::start(&policy, memory), kernel::START);
     }
     if same(first, b"run") & one {
-        return answered(stand, kernel::run(policy, memory, place, x));
+        return answered(stand, kernel::run(&policy, memory, place, x), place);
     }
     if same(first, b"pend") & two {
-        next.number = kernel::outcome_number(kernel::pend(policy, memory, x, y));
+        next.number = kernel::pend(&policy, memory, x, y)
+            .err()
+            .map_or(0, u32::from);
         return next;
     }
     if same(first, b"from") & three {
@@ -127,11 +128,7 @@ pub(crate) fn try_lines(rt: &impl Print, base: &[u8], block: &[u8], fence: u32) 
     let policy = reader::read(base).unwrap_or(Policy::zeros());
     let mut memory = [0u8; MEMORY];
     let mut stand = Stand {
-        place: Place {
-            slot: 0,
-            used: 0,
-            count: 0,
-        },
+        place: kernel::START,
         number: 0,
         checks: 0,
         right: true,

@@ -11,7 +11,7 @@ use crate::memory::{fill, look, number_of};
 use crate::reaching::{show_masks, show_reach};
 use crate::record::changed;
 use crate::ticks::show_sheet;
-use calls::Placed;
+use calls::Refused;
 use machine::Place;
 use octets::entry_or;
 use policy::Policy;
@@ -42,10 +42,10 @@ fn show_answer(rt: &impl Print, n: u32) -> io::Result<()> {
     show(rt, b"\n")
 }
 
-fn answered(rt: &impl Print, placed: Placed) -> io::Result<Place> {
-    let outcome = placed.outcome;
-    let place = placed.place;
-    show_number(rt, b"\t", kernel::outcome_number(outcome))?;
+// With the place that a refused Start or Run returns.
+fn answered(rt: &impl Print, answer: Result<Place, Refused>, kept: Place) -> io::Result<Place> {
+    let place = answer.unwrap_or(kept);
+    show_number(rt, b"\t", answer.err().map_or(0, u32::from))?;
     show_number(rt, b"\t", place.slot)?;
     show_number(rt, b" ", place.used)?;
     show_number(rt, b" ", place.count)?;
@@ -72,8 +72,8 @@ fn act(
     let x = number_in(line, 1);
     let y = number_in(line, 2);
     match entry_or(line, 0, 0) {
-        b's' => return answered(rt, kernel::start(policy, memory)),
-        b'r' => return answered(rt, kernel::run(policy, memory, place, x)),
+        b's' => return answered(rt, kernel::start(&policy, memory), kernel::START),
+        b'r' => return answered(rt, kernel::run(&policy, memory, place, x), place),
         b'a' => {
             return Ok(Place {
                 slot: x,
@@ -83,7 +83,9 @@ fn act(
         }
         b'p' => show_answer(
             rt,
-            kernel::outcome_number(kernel::pend(policy, memory, x, y)),
+            kernel::pend(&policy, memory, x, y)
+                .err()
+                .map_or(0, u32::from),
         )?,
         b'w' => write(memory, x, next),
         b'f' => fill(memory, x),
@@ -128,11 +130,7 @@ fn steps(
     read: Policy,
 ) -> io::Result<usize> {
     let mut policy = read;
-    let mut place = Place {
-        slot: 0,
-        used: 0,
-        count: 0,
-    };
+    let mut place = kernel::START;
     let mut at = from;
     let mut left: u32 = 1000;
     while 0 < left {

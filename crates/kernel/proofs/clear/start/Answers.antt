@@ -1,31 +1,31 @@
--- Each return rewrites with the tests on the way, which are the definition's in its order.
-use Rattle.std.proofs.Common.{sym, refl, ◌∙◌, eq-eqb, ne_eqb}
-use Rattle.policy.specs.Limits.{single}
-use Rattle.calls.specs.Start.{start_outcome, start_answer, after_start}
+-- What the first tests refuse is refused and left; else every save segment is cleared.
+use Rattle.std.proofs.Common.{sym}
+use Rattle.std.proofs.lemmas.Result.{err_from_is_err_and}
+use Rattle.calls.specs.Under.{under_policy}
+use Rattle.calls.specs.Start.{start_answer, after_start}
+use Rattle.calls.proofs.Laws.Outcomes.{start_whole, start_sound}
 use Rattle.kernel.proofs.clear.start.Goals as goal
 
-pub returns-then-memory-ne-MEMORY : goal.returns-then-memory-ne-MEMORY
-unfolding start_outcome start_answer after_start
-returns-then-memory-ne-MEMORY c = rw (ne_eqb _ single.memory c.if-memory-ne-MEMORY.true) (refl, refl)
+pub returns-in_err-tested-clause-answer : goal.returns-in_err-tested-clause-answer
+unfolding start_answer
+returns-in_err-tested-clause-answer c =
+    let p = err_from_is_err_and c.from_residual.result c.from_residual.ensures.1 in
+    rw (p.1, p.2, sym c.in_err-tested.ensures)
 
-pub returns-then-not-passes_test : goal.returns-then-not-passes_test
-unfolding start_outcome start_answer after_start
-returns-then-not-passes_test c =
-    rw (eq-eqb _ _ c.if-memory-ne-MEMORY.false, sym c.passes_test.ensures ∙ c.if-not-passes_test.true) (refl, refl)
+pub returns-in_err-tested-clause-memory_after : goal.returns-in_err-tested-clause-memory_after
+unfolding after_start
+returns-in_err-tested-clause-memory_after c = rw (sym c.in_err-tested.ensures)
 
-pub clear_saves-requires : goal.clear_saves-requires
-clear_saves-requires c =
-    let t = c in
-    (sym t.passes_test.ensures ∙ t.if-not-passes_test.false, t.if-memory-ne-MEMORY.false)
+pub clear_saves-requires-clause-sound : goal.clear_saves-requires-clause-sound
+clear_saves-requires-clause-sound c = start_sound (under_policy c.args.policy.now) c.args.memory.now (sym c.in_ok-tested.ensures)
 
-pub returns : goal.returns
-unfolding start_outcome start_answer after_start
-returns c =
-    let call = c in
-    let t = call in
-    rw (
-      call.clear_saves.ensures,
-      eq-eqb _ _ t.if-memory-ne-MEMORY.false,
-      sym t.passes_test.ensures ∙ t.if-not-passes_test.false,
-    )
-    (refl, refl)
+pub clear_saves-requires-clause-whole : goal.clear_saves-requires-clause-whole
+clear_saves-requires-clause-whole c = start_whole (under_policy c.args.policy.now) c.args.memory.now (sym c.in_ok-tested.ensures)
+
+pub returns-clause-answer : goal.returns-clause-answer
+unfolding start_answer
+returns-clause-answer c = rw (sym c.in_ok-tested.ensures)
+
+pub returns-clause-memory_after : goal.returns-clause-memory_after
+unfolding after_start
+returns-clause-memory_after c = rw (sym c.in_ok-tested.ensures) c.clear_saves.ensures

@@ -1,56 +1,60 @@
--- Each return rewrites with the tests on the way, which are the definition's in its order; a line is at most 7, so its bit is in the byte.
-use Rattle.std.proofs.Common.{◌<◌, sym, refl, ◌∙◌, mod-eq_of_lt, one-mul, arith, le-ltb, lt-ltb, eq-eqb, ne_eqb, le-leb}
+-- What the first tests refuse is refused and left; past them each return rewrites with the tests on the way, which are the definition's in its order.
+use Rattle.std.proofs.Common.{◌<◌, refl, sym, arith, mod-eq_of_lt, one-mul, le-ltb, lt-ltb, le-leb}
+use Rattle.std.proofs.lemmas.Result.{err_from_is_err_and}
 use lib.Pow.{pow-lt}
 use borrow.Author.Tests.{lt-leb}
-use Rattle.policy.specs.Limits.{single}
-use Rattle.calls.specs.Pend.{last_line, pend_outcome, with_line, after_pend}
+use Rattle.calls.specs.Under.{under_policy}
+use Rattle.calls.specs.Pend.{last_line, with_line, after_pend}
+use Rattle.calls.proofs.Laws.Outcomes.{start_whole, start_sound, pend_refused, pend_passed}
 use Rattle.kernel.proofs.line.pend.Goals as goal
 
-pub returns-then-memory-ne-MEMORY : goal.returns-then-memory-ne-MEMORY
-unfolding pend_outcome after_pend
-returns-then-memory-ne-MEMORY c = rw (ne_eqb _ single.memory c.if-memory-ne-MEMORY.true) (refl, refl)
+pub returns-in_err-tested-clause-outcome : goal.returns-in_err-tested-clause-outcome
+returns-in_err-tested-clause-outcome c =
+    let p = err_from_is_err_and c.from_residual.result c.from_residual.ensures.1 in
+    rw (p.1, p.2, pend_refused _ _ _ _ _ (sym c.in_err-tested.ensures))
 
-pub returns-then-not-passes_test : goal.returns-then-not-passes_test
-unfolding pend_outcome after_pend
-returns-then-not-passes_test c =
-    rw (eq-eqb _ _ c.if-memory-ne-MEMORY.false, sym c.passes_test.ensures ∙ c.if-not-passes_test.true) (refl, refl)
+pub returns-in_err-tested-clause-memory_after : goal.returns-in_err-tested-clause-memory_after
+unfolding after_pend
+returns-in_err-tested-clause-memory_after c =
+    rw (pend_refused (under_policy c.args.policy.now) c.args.memory.now c.args.partition c.args.line _ (sym c.in_err-tested.ensures))
 
-pub returns-then-policy-partition : goal.returns-then-policy-partition
-unfolding pend_outcome after_pend
-returns-then-policy-partition c =
-    let sound = c in
+pub returns-then-from-partition : goal.returns-then-from-partition
+unfolding after_pend
+returns-then-from-partition c =
     rw (
-      eq-eqb _ _ sound.if-memory-ne-MEMORY.false,
-      sym sound.passes_test.ensures ∙ sound.if-not-passes_test.false,
-      le-leb _ _ c.if-policy-partition.true,
+      pend_passed (under_policy c.args.policy.now) c.args.memory.now c.args.partition c.args.line (sym c.in_ok-tested.ensures),
+      le-leb c.args.policy.now.partitions c.args.partition (omega arith),
     )
-    (refl, refl)
+    (record { outcome = refl; memory_after = refl })
 
 pub returns-then-line-gt-LAST_LINE : goal.returns-then-line-gt-LAST_LINE
-unfolding pend_outcome after_pend
+unfolding after_pend
 returns-then-line-gt-LAST_LINE c =
-    let sound = c in
     rw (
-      eq-eqb _ _ sound.if-memory-ne-MEMORY.false,
-      sym sound.passes_test.ensures ∙ sound.if-not-passes_test.false,
-      lt-leb _ _ c.if-policy-partition.false,
+      pend_passed (under_policy c.args.policy.now) c.args.memory.now c.args.partition c.args.line (sym c.in_ok-tested.ensures),
+      lt-leb c.args.policy.now.partitions c.args.partition (omega arith),
       lt-ltb last_line _ c.if-line-gt-LAST_LINE.true,
     )
-    (refl, refl)
+    (record { outcome = refl; memory_after = refl })
+
+pub save_from-at-requires-clause-sound : goal.save_from-at-requires-clause-sound
+save_from-at-requires-clause-sound c = start_sound (under_policy c.args.policy.now) c.args.memory.now (sym c.in_ok-tested.ensures)
+
+pub bounds-memory-at : goal.bounds-memory-at
+bounds-memory-at c =
+    omega (arith, start_whole (under_policy c.args.policy.now) c.args.memory.now (sym c.in_ok-tested.ensures), c.save_from-at.ensures.inside)
+
+pub bounds-memory-at-2 : goal.bounds-memory-at-2
+bounds-memory-at-2 c =
+    omega (arith, start_whole (under_policy c.args.policy.now) c.args.memory.now (sym c.in_ok-tested.ensures), c.save_from-at.ensures.inside)
 
 pub returns : goal.returns
-unfolding pend_outcome with_line after_pend
+unfolding with_line after_pend
 returns c =
-    let stored = c in
-    let read = stored in
-    let found = read in
-    let line = found in
-    let sound = line in
-    let small : sound.args.line < 8 = omega (arith, line.if-line-gt-LAST_LINE.false) in
+    let small : c.args.line < 8 = omega (arith, c.if-line-gt-LAST_LINE.false) in
     rw (
-      eq-eqb _ _ sound.if-memory-ne-MEMORY.false,
-      sym sound.passes_test.ensures ∙ sound.if-not-passes_test.false,
-      lt-leb _ _ line.if-policy-partition.false,
-      le-ltb _ _ line.if-line-gt-LAST_LINE.false,
+      pend_passed (under_policy c.args.policy.now) c.args.memory.now c.args.partition c.args.line (sym c.in_ok-tested.ensures),
+      lt-leb c.args.policy.now.partitions c.args.partition (omega arith),
+      le-ltb _ _ c.if-line-gt-LAST_LINE.false,
     )
-    (refl, rw (one-mul, mod-eq_of_lt (pow-lt {j = 8} small), read.entry_or-lines.ensures, found.save_from.ensures) at stored.put.ensures)
+    (record { outcome = refl; memory_after = rw (one-mul, mod-eq_of_lt (pow-lt {j = 8} small), c.save_from-at.ensures.base) })
