@@ -1,6 +1,7 @@
 // The digits of a number in a policy text: decimal ones, or hexadecimal ones past 0x.
 #![tactic(auto)]
 
+mod base;
 mod number;
 mod scan;
 

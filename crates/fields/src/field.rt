@@ -1,97 +1,65 @@
-// One field of a line, read by value at a place, the field's first byte. A reader knows which byte must end its field,
-// finds the end itself and leaves the place past it, so that each byte is passed once. Where no such field stands, the
-// place stays; it is written anew by its fields, since a copy of the whole record also moves the bytes between them.
+// One field of a line, read at a place that is lent, the field's first byte. A reader knows which byte must end its field,
+// finds the end itself and moves the place past it, so that each byte is passed once. Where no such field stands, the
+// place stays.
 ghost use Rattle.std.specs.Prelude.{true, ◌||◌, ◌≡◌, eqb};
 ghost use Rattle.text.specs.Cut.{tab, line_end};
 ghost use Rattle.text.specs.Number.{number};
 ghost use Rattle.text.specs.Readers.{field_read, inner_read, last_read, letters_read};
 
-use crate::scan::stands;
-use text::{Cursor, Number, NumberRead};
+use digits::digits_at;
+use text::Cursor;
 
 // The field that this byte ends, read as a number, decimal or past 0x hexadecimal: digits to the field's end, as many as
 // there may be, and a leading 0 alone.
-fn number_to(text: &[u8], c: Cursor, end: u8) -> NumberRead
+fn number_to(text: &[u8], place: &mut Cursor, end: u8) -> Option<u32>
     requires { eqb end tab || eqb end line_end ≡ true }
-    ensures { result ≡ field_read number end text.now c }
+    ensures { record { said = result; next = place.new } ≡ field_read number end text.now place.old }
 {
-    let at = c.at;
-    let line = c.line;
-    let none = NumberRead {
-        number: Number::Malformed,
-        next: Cursor { at, line },
-    };
-    if text.len() < at {
-        return none;
+    if text.len() < place.at {
+        return None;
     }
-    let d = digits::digits_at(text, at, end);
-    let stop = d.ended;
-    if !stop {
-        return none;
-    }
-    let from = d.from;
-    let n = d.end - from;
+    let d = digits_at(text, place.at, end)?;
+    let n = d.end - d.from;
     if (n < 1) | (d.most < n) {
-        return none;
+        return None;
     }
-    if (text[from] == b'0') & (1 < n) {
-        return none;
+    if (text[d.from] == b'0') & (1 < n) {
+        return None;
     }
-    NumberRead {
-        number: Number::Value(d.value),
-        next: Cursor {
-            at: d.end + 1,
-            line,
-        },
-    }
+    place.at = d.end + 1;
+    Some(d.value)
 }
 
 // The letters of a right, which end their line: r is 1, w is 2, rw is 3.
-pub fn read_letters(text: &[u8], c: Cursor) -> NumberRead
-    ensures { result ≡ letters_read text.now c }
+pub fn read_letters(text: &[u8], place: &mut Cursor) -> Option<u32>
+    ensures { record { said = result; next = place.new } ≡ letters_read text.now place.old }
 {
-    let at = c.at;
-    let line = c.line;
-    if text.len() < at {
-        return NumberRead {
-            number: Number::Malformed,
-            next: Cursor { at, line },
-        };
+    let rest = text.get(place.at..)?;
+    if rest.starts_with(b"r\n") {
+        place.at += 2;
+        return Some(1);
     }
-    if stands(text, at, b"r\n") {
-        return NumberRead {
-            number: Number::Value(1),
-            next: Cursor { at: at + 2, line },
-        };
+    if rest.starts_with(b"w\n") {
+        place.at += 2;
+        return Some(2);
     }
-    if stands(text, at, b"w\n") {
-        return NumberRead {
-            number: Number::Value(2),
-            next: Cursor { at: at + 2, line },
-        };
+    if rest.starts_with(b"rw\n") {
+        place.at += 3;
+        return Some(3);
     }
-    if stands(text, at, b"rw\n") {
-        return NumberRead {
-            number: Number::Value(3),
-            next: Cursor { at: at + 3, line },
-        };
-    }
-    NumberRead {
-        number: Number::Malformed,
-        next: Cursor { at, line },
-    }
+    None
 }
 
 // A number with a field after it.
-pub fn read_inner(text: &[u8], c: Cursor) -> NumberRead
-    ensures { result ≡ inner_read text.now c }
+pub fn read_inner(text: &[u8], place: &mut Cursor) -> Option<u32>
+    ensures { record { said = result; next = place.new } ≡ inner_read text.now place.old }
 {
-    number_to(text, c, b'\t')
+    number_to(text, place, b'\t')
 }
 
 // A number that ends its line.
-pub fn read_last(text: &[u8], c: Cursor) -> NumberRead
-    ensures { result ≡ last_read text.now c }
+pub fn read_last(text: &[u8], place: &mut Cursor) -> Option<u32>
+    ensures { record { said = result; next = place.new } ≡ last_read text.now place.old }
 {
-    number_to(text, c, b'\n')
+    number_to(text, place, b'\n')
 }

@@ -1,8 +1,7 @@
-// One field of a policy text's line, read by value at a place.
+// One field of a policy text's line, read at a place that is lent.
 #![tactic(auto)]
 
 mod field;
-mod scan;
 mod word;
 
 pub use field::{read_inner, read_last, read_letters};

@@ -2,41 +2,32 @@
 ghost use Rattle.std.specs.Prelude.{◌≡◌};
 ghost use Rattle.text.specs.Readers.{word_read};
 
-use crate::scan::stands;
-use text::{Cursor, Kind, WordRead};
-
-fn found(kind: Kind, end: usize, line: u32) -> WordRead
-    ensures { result ≡ record { kind = kind; next = record { at = end; line = line } } }
-{
-    WordRead {
-        kind,
-        next: Cursor { at: end, line },
-    }
-}
+use text::{Cursor, Kind};
 
 // The first field of the line, read as the record word. The words that most lines have are tried first.
-pub fn read_word(text: &[u8], c: Cursor) -> WordRead
-    ensures { result ≡ word_read text.now c }
+pub fn read_word(text: &[u8], place: &mut Cursor) -> Option<Kind>
+    ensures { record { said = result; next = place.new } ≡ word_read text.now place.old }
 {
-    let at = c.at;
-    let line = c.line;
-    if text.len() < at {
-        return found(Kind::Unknown, at, line);
+    let rest = text.get(place.at..)?;
+    if rest.starts_with(b"flow\t") {
+        place.at += 5;
+        return Some(Kind::Flow);
     }
-    if stands(text, at, b"flow\t") {
-        return found(Kind::OfFlow, at + 5, line);
+    if rest.starts_with(b"right\t") {
+        place.at += 6;
+        return Some(Kind::Right);
     }
-    if stands(text, at, b"right\t") {
-        return found(Kind::OfRight, at + 6, line);
+    if rest.starts_with(b"slot\t") {
+        place.at += 5;
+        return Some(Kind::Slot);
     }
-    if stands(text, at, b"slot\t") {
-        return found(Kind::OfSlot, at + 5, line);
+    if rest.starts_with(b"segment\t") {
+        place.at += 8;
+        return Some(Kind::Segment);
     }
-    if stands(text, at, b"segment\t") {
-        return found(Kind::OfSegment, at + 8, line);
+    if rest.starts_with(b"partition\t") {
+        place.at += 10;
+        return Some(Kind::Partition);
     }
-    if stands(text, at, b"partition\t") {
-        return found(Kind::OfPartition, at + 10, line);
-    }
-    found(Kind::Unknown, at, line)
+    None
 }

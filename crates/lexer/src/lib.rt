@@ -2,6 +2,5 @@
 #![tactic(auto)]
 
 mod parse;
-mod take;
 
 pub use parse::line_from;

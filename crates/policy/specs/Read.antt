@@ -1,8 +1,7 @@
 -- 01, "Read a policy", with what 02's S-4 and S-5 add.
-use Rattle.std.specs.Prelude.{ℕ, ◌+◌, Bool, true, false, cond, List, [], ◌∷◌, ◌++◌, length, ltb, Ok, Err}
+use Rattle.std.specs.Prelude.{ℕ, ◌+◌, Bool, true, false, cond, List, [], ◌∷◌, ◌++◌, length, ltb, Option, Ok, Err}
 use Rattle.text.specs.Lines.{lines_by}
 use Rattle.text.specs.Number.{number}
-use Rattle.text.specs.declared.line.Number.{Number}
 use Rattle.text.specs.declared.line.Line.{Line}
 use Rattle.text.specs.declared.line.Line.TheVariants.{Bad, Segment, Partition, Right, Flow, Slot}
 use Rattle.policy.specs.declared.record.Key.{Key}
@@ -80,7 +79,7 @@ abbrev pub read_lines : Limits → ℕ → Draft → List Line → Answer
 read_lines = read_lines_by whole_refusal
 
 -- "1: over 16,384 bytes, line 0. Then the first bad line, counted from 1", with numbers read so and this asked of the whole.
-unfoldable pub read_by : (List ℕ → Number) → (View → Verdict) → Limits → List ℕ → Answer
+unfoldable pub read_by : (List ℕ → Option ℕ) → (View → Verdict) → Limits → List ℕ → Answer
 read_by read whole limits text =
     let rest = read_lines_by whole limits 1 (begun limits) (lines_by read text) in
     cond (too_long limits text) (answer limits (Err TooLong) (zeros limits)) rest

@@ -26,7 +26,7 @@ fn show_answer(rt: &impl Print, text: &[u8], words: &[u8]) -> io::Result<()> {
 // Nothing is read where no two numbers ask.
 fn answer(rt: &(impl Input + Print), words: &[u8]) -> io::Result<()> {
     let mut text = [0u8; 16385];
-    if reaching::words_in(words).asks {
+    if reaching::words_in(words).is_some() {
         let n = read_full(&mut rt.reader(), &mut text)?;
         show_answer(rt, &text[..n], words)
     } else {

@@ -1,12 +1,9 @@
 -- What policyreach writes when it is asked whether one segment can reach another.
-use Rattle.std.specs.Prelude.{ℕ, Bool, true, false, cond, List, [], ◌∷◌, ◌++◌, eqb, length}
+use Rattle.std.specs.Prelude.{ℕ, Bool, true, false, cond, List, [], ◌∷◌, ◌++◌, eqb, length, Option, Some, None}
 use Rattle.text.specs.declared.line.Cursor.{Cursor}
-use Rattle.text.specs.declared.line.Number.{Number}
-use Rattle.text.specs.declared.line.Number.TheVariants.{Value, Malformed}
-use Rattle.text.specs.declared.read.NumberRead.{NumberRead}
 use Rattle.text.specs.Bytes.{bytes_of}
 use Rattle.text.specs.Cut.{tab, line_end}
-use Rattle.text.specs.Readers.{inner_read, last_read}
+use Rattle.text.specs.Readers.{Found, inner_read, last_read}
 use Rattle.policy.specs.Asked.{asked_number, is_answered}
 use Rattle.policy.specs.Limits.{Limits}
 use Rattle.policy.specs.Refusals.{is_accepted}
@@ -20,25 +17,22 @@ use Rattle.reach.specs.declared.Answer.{Answer as Question}
 use Rattle.reaching.specs.declared.words.Words.{Words}
 
 -- The program's words are read as the fields of a policy text's line: a tab behind the first, a line end behind the second.
-abbrev pub first_word : List ℕ → NumberRead
+abbrev pub first_word : List ℕ → Found ℕ
 first_word words = inner_read words (record { at = 0; line = 0 })
 
-abbrev pub next_word : List ℕ → Cursor → NumberRead
+abbrev pub next_word : List ℕ → Cursor → Found ℕ
 next_word words c = last_read words c
 
-abbrev pub no_words : Words
-no_words = record { asks = false; from = 0; to = 0 }
-
-abbrev pub both_words : Number → Number → Words
-both_words (Value s) (Value t) = record { asks = true; from = s; to = t }
-both_words (Value s) Malformed = no_words
-both_words Malformed t = no_words
+abbrev pub both_words : Option ℕ → Option ℕ → Option Words
+both_words (Some s) (Some t) = Some (record { from = s; to = t })
+both_words (Some s) None = None
+both_words None t = None
 
 -- Two numbers, and nothing after them.
-abbrev pub two_words : List ℕ → NumberRead → NumberRead → Words
-two_words words a b = cond (eqb b.next.at (length words)) (both_words a.number b.number) no_words
+abbrev pub two_words : List ℕ → Found ℕ → Found ℕ → Option Words
+two_words words a b = cond (eqb b.next.at (length words)) (both_words a.said b.said) None
 
-unfoldable pub words_of : List ℕ → Words
+unfoldable pub words_of : List ℕ → Option Words
 words_of words = two_words words (first_word words) (next_word words (first_word words).next)
 
 abbrev pub yes_end : Bool → List ℕ
@@ -61,6 +55,9 @@ question_line limits s t a =
 abbrev pub usage : List ℕ
 usage = bytes_of "usage: policyreach [FROM TO] < POLICY" ++ line_end ∷ []
 
+abbrev pub words_line : Limits → List ℕ → Option Words → List ℕ
+words_line limits text (Some w) = question_line limits w.from w.to (read_of limits text)
+words_line limits text None = usage
+
 unfoldable pub question_of : Limits → List ℕ → List ℕ → List ℕ
-question_of limits text words =
-    let w = words_of words in cond w.asks (question_line limits w.from w.to (read_of limits text)) usage
+question_of limits text words = words_line limits text (words_of words)

@@ -57,10 +57,9 @@ pub fn answer_on(text: &[u8], words: &[u8], out: &mut [u8; 3424]) -> usize
         × (result ≤ 3424)
         × (out.new ≡ sets out.old 0 (question_of single text.now words.now)) }
 {
-    let asked = words_in(words);
-    if !asked.asks {
+    let Some(asked) = words_in(words) else {
         return put_word(out, 0, b"usage: policyreach [FROM TO] < POLICY\n");
-    }
+    };
     match reader::read(text) {
         Ok(policy) => put_answer(policy, asked.from, asked.to, out),
         Err(refusal) => put_refused(refusal, out),

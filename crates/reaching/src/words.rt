@@ -2,60 +2,30 @@
 ghost use Rattle.std.specs.Prelude.{◌+◌, ◌≤◌, ◌≡◌, [], ◌∷◌, ◌++◌, length};
 ghost use Rattle.text.specs.Cut.{tab, line_end};
 ghost use Rattle.writing.specs.Written.{Written};
-ghost use Rattle.reaching.specs.Question.{both_words, words_of};
+ghost use Rattle.reaching.specs.Question.{words_of};
 
 use fields::{read_inner, read_last};
-use text::{Cursor, Number};
+use text::Cursor;
 use writing::{put_byte, put_word};
 
-// Whether two numbers are there, and which.
-#[derive(Clone, Copy)]
+// The two numbers of a question.
+#[derive(Clone, Copy, PartialEq, Eq, Debug)]
 pub struct Words {
-    pub asks: bool,
     pub from: u32,
     pub to: u32,
 }
 
-fn both(source: Number, target: Number) -> Words
-    ensures { result ≡ both_words source target }
-{
-    match source {
-        Number::Value(from) => match target {
-            Number::Value(to) => Words {
-                asks: true,
-                from,
-                to,
-            },
-            Number::Malformed => Words {
-                asks: false,
-                from: 0,
-                to: 0,
-            },
-        },
-        Number::Malformed => Words {
-            asks: false,
-            from: 0,
-            to: 0,
-        },
-    }
-}
-
 // The words stand as the fields of a line: a tab behind the first, a line end behind the second.
-pub fn words_in(words: &[u8]) -> Words
+pub fn words_in(words: &[u8]) -> Option<Words>
     ensures { result ≡ words_of words.now }
 {
-    let first = read_inner(words, Cursor { at: 0, line: 0 });
-    let second = read_last(words, first.next);
-    if second.next.at != words.len() {
-        return Words {
-            asks: false,
-            from: 0,
-            to: 0,
-        };
+    let mut place = Cursor { at: 0, line: 0 };
+    let from = read_inner(words, &mut place)?;
+    let to = read_last(words, &mut place)?;
+    if place.at != words.len() {
+        return None;
     }
-    let source = first.number;
-    let target = second.number;
-    both(source, target)
+    Some(Words { from, to })
 }
 
 // The words of a question, as the fields of a line.

@@ -5,19 +5,18 @@ use mathlib.Core.Path.{◌≡◌, refl}
 use mathlib.Core.Bool.{true, false, not}
 use mathlib.Core.List.{List, [], ◌∷◌}
 use borrow.Author.Tests.{not-true}
+use Rattle.std.specs.Prelude.{Option, Some, None}
 use Rattle.text.proofs.Forms.{decimal_kept, value_kept}
 use Rattle.text.proofs.Laws.Bools.{and_left, and_right}
 use Rattle.text.specs.Cut.{cut, line_end, fields_of}
 use Rattle.text.specs.DecimalTexts.{no_field, no_line, is_decimal}
 use Rattle.text.specs.Lines.{given, next_field, segment_line, partition_line, right_line, flow_line, slot_line}
-use Rattle.text.specs.Lines.{word_of, line_of_kind, line_by, lines_of_pieces, lines_by}
+use Rattle.text.specs.Lines.{word_of, line_of_kind, line_of_word, line_by, lines_of_pieces, lines_by}
 use Rattle.text.specs.Number.{decimal, begins_hex, number}
 use Rattle.text.specs.declared.line.Kind.{Kind}
-use Rattle.text.specs.declared.line.Kind.TheVariants.{OfSegment, OfPartition, OfRight, OfFlow, OfSlot, Unknown}
+use Rattle.text.specs.declared.line.Kind.TheVariants.{Segment as OfSegment, Partition as OfPartition, Right as OfRight, Flow as OfFlow, Slot as OfSlot}
 use Rattle.text.specs.declared.line.Line.{Line}
 use Rattle.text.specs.declared.line.Line.TheVariants.{Bad}
-use Rattle.text.specs.declared.line.Number.{Number}
-use Rattle.text.specs.declared.line.Number.TheVariants.{Value, Malformed}
 
 -- Something claimed of each two lines.
 abbrev pub Both : (Line → Line → Type 0) → List Line → List Line → Type 0
@@ -57,12 +56,16 @@ module _
   kind_claim OfRight fs a = a_number fs a _ _ λ partition fs a. a_number fs a _ _ λ segment fs a. same _
   kind_claim OfFlow fs a = a_number fs a _ _ λ from fs a. a_number fs a _ _ λ to fs a. same _
   kind_claim OfSlot fs a = a_number fs a _ _ λ partition fs a. a_number fs a _ _ λ ticks fs a. same _
-  kind_claim Unknown fs a = same Bad
+
+  word_claim :
+      (kind : Option Kind) (fs : List (List ℕ)) → All Fine fs → Claim (line_of_word decimal kind fs) (line_of_word number kind fs)
+  word_claim (Some kind) fs a = kind_claim kind fs a
+  word_claim None fs a = same Bad
 
   line_claim : (fs : List (List ℕ)) → All Fine fs → Claim (line_by decimal fs) (line_by number fs)
   unfolding line_by
   line_claim [] a = same Bad
-  line_claim (word ∷ fs) a = kind_claim (word_of word) fs a.1
+  line_claim (word ∷ fs) a = word_claim (word_of word) fs a.1
 
   pieces_claim :
       (ps : List (List ℕ)) → AllOf Fine ps → Both Claim (lines_of_pieces decimal ps) (lines_of_pieces number ps)
@@ -81,9 +84,9 @@ plain_step :
     → given (decimal f) more ≡ given (number f) other
 plain_step f e more other h = rw (decimal_kept f e) (go (decimal f))
   where
-    go : (n : Number) → given n more ≡ given n other
-    go (Value v) = h v
-    go Malformed = refl
+    go : (n : Option ℕ) → given n more ≡ given n other
+    go (Some v) = h v
+    go None = refl
 
 plain_fields : (fs : List (List ℕ)) → no_field fs ≡ true → All Plain fs
 unfolding no_field
@@ -122,9 +125,9 @@ kept_step :
     → Kept (given (decimal f) more) (given (number f) other)
 kept_step f u more other h = go (decimal f) refl
   where
-    go : (n : Number) → decimal f ≡ n → Kept (given n more) (given (number f) other)
-    go (Value v) e d = rw (value_kept f v e) (h v d)
-    go Malformed e d = absurd (d refl)
+    go : (n : Option ℕ) → decimal f ≡ n → Kept (given n more) (given (number f) other)
+    go (Some v) e d = rw (value_kept f v e) (h v d)
+    go None e d = absurd (d refl)
 
 all_fine : (fs : List (List ℕ)) → All (λ f. Unit {0}) fs
 all_fine [] = tt

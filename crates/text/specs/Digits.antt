@@ -1,5 +1,5 @@
 -- The digits that stand at a place, however many, and those of a number there: decimal ones, or hexadecimal ones past 0x.
-use Rattle.std.specs.Prelude.{ℕ, ◌+◌, ◌%◌, Bool, ◌&&◌, cond, List, [], ◌∷◌, eqb, length, drop, get_or}
+use Rattle.std.specs.Prelude.{◌≡◌, ℕ, ◌+◌, ◌%◌, ◌<◌, ◌≤◌, Bool, true, false, ◌&&◌, cond, List, [], ◌∷◌, eqb, length, drop, get_or, Option, Some, None}
 use Rattle.text.specs.declared.read.Digits.{Digits}
 use Rattle.text.specs.declared.read.NumberDigits.{NumberDigits}
 use Rattle.text.specs.Number.{Notation, ten, sixteen, value_from}
@@ -19,21 +19,24 @@ digits_read form text from =
       stop = get_or (drop from text) (length digits) 0;
     }
 
--- What a byte is worth as a digit; the base, which no digit is worth, for a byte that is none.
-unfoldable pub digit_worth : Notation → ℕ → ℕ
-digit_worth form b = cond (form.is_digit b) (form.worth b) form.base
+-- What a byte is taken to be worth: below the base it is a digit of this worth, from the base on it is none.
+pub record IsWorth (form : Notation) (b d : ℕ) : Type 0 where
+  pub digit : d < form.base → (form.is_digit b ≡ true) × (form.worth b ≡ d)
+  pub other : form.base ≤ d → form.is_digit b ≡ false
 
--- Digits from a place on, as those of a number that this byte ends.
-abbrev pub as_number : Notation → ℕ → ℕ → Digits → NumberDigits
-as_number form end from d =
-    record { value = d.value; from = from; most = form.most; end = d.end; ended = eqb d.stop end }
+-- Digits from a place on, as those of a number; none if another byte than this ends them.
+abbrev pub of_number : Notation → ℕ → Digits → NumberDigits
+of_number form from d = record { value = d.value; from = from; most = form.most; end = d.end }
+
+abbrev pub as_number : Notation → ℕ → ℕ → Digits → Option NumberDigits
+as_number form end from d = cond (eqb d.stop end) (Some (of_number form from d)) None
 
 -- Whether decimal digits are the single 0 in front of x.
 abbrev pub marks : ℕ → Digits → Bool
 marks from d = eqb d.stop 0x78 && eqb d.end (from + 1) && eqb d.value 0
 
 -- The digits of the number at a place, which this byte ends: past 0x hexadecimal, else decimal.
-unfoldable pub number_digits : ℕ → List ℕ → ℕ → NumberDigits
+unfoldable pub number_digits : ℕ → List ℕ → ℕ → Option NumberDigits
 number_digits end text from =
     let d = digits_read ten text from in
     cond (marks from d) (as_number sixteen end (from + 2) (digits_read sixteen text (from + 2))) (as_number ten end from d)

@@ -1,10 +1,8 @@
 -- Fields that are numbers, and fields at the edges that are none: 01's decimal numbers and 02's hexadecimal ones.
 use Prim.Native.String.{String}
-use Rattle.std.specs.Prelude.{ℕ, Bool, true, false, ◌&&◌, List, [], ◌∷◌, eqb}
+use Rattle.std.specs.Prelude.{ℕ, Bool, true, false, ◌&&◌, List, [], ◌∷◌, eqb, Option, Some, None, is_none}
 use Rattle.text.specs.Bytes.{bytes_of}
 use Rattle.text.specs.Number.{number}
-use Rattle.text.specs.declared.line.Number.{Number}
-use Rattle.text.specs.declared.line.Number.TheVariants.{Value, Malformed}
 
 pub data Example : Type 0 where
   -- a field, and the number that it is
@@ -12,13 +10,9 @@ pub data Example : Type 0 where
   -- a field that is no number
   none : String → Example
 
-abbrev pub is_value : Number → ℕ → Bool
-is_value (Value v) n = eqb v n
-is_value Malformed n = false
-
-abbrev pub is_none : Number → Bool
-is_none (Value v) = false
-is_none Malformed = true
+abbrev pub is_value : Option ℕ → ℕ → Bool
+is_value (Some v) n = eqb v n
+is_value None n = false
 
 unfoldable pub holds : Example → Bool
 holds (is field n) = is_value (number (bytes_of field)) n

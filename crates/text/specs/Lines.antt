@@ -2,24 +2,22 @@
 -- Refusal 2, "unknown word, wrong fields, bad number or letters, no line end", is the case Bad.
 -- The lines are those that a reader of numbers gives, so that 01's decimal reading can still be spoken of: "decimal texts
 -- give what they gave" (02, S-4). A policy text is read by `number`.
-use Rattle.std.specs.Prelude.{ℕ, cond, List, [], ◌∷◌}
+use Rattle.std.specs.Prelude.{ℕ, cond, List, [], ◌∷◌, Option, Some, None}
 use Rattle.text.specs.Bytes.{bytes_of, same}
 use Rattle.text.specs.Cut.{cut, fields_of, line_end}
 use Rattle.text.specs.Number.{number, letters}
-use Rattle.text.specs.declared.line.Number.{Number}
-use Rattle.text.specs.declared.line.Number.TheVariants.{Value, Malformed}
 use Rattle.text.specs.declared.line.Kind.{Kind}
-use Rattle.text.specs.declared.line.Kind.TheVariants.{OfSegment, OfPartition, OfRight, OfFlow, OfSlot, Unknown}
+use Rattle.text.specs.declared.line.Kind.TheVariants.{Segment as OfSegment, Partition as OfPartition, Right as OfRight, Flow as OfFlow, Slot as OfSlot}
 use Rattle.text.specs.declared.line.Line.{Line}
 use Rattle.text.specs.declared.line.Line.TheVariants.{Bad, Segment, Partition, Right, Flow, Slot}
 
 -- Goes on with the value of a field, if it has one.
-abbrev pub given : Number → (ℕ → Line) → Line
-given Malformed more = Bad
-given (Value n) more = more n
+abbrev pub given : Option ℕ → (ℕ → Line) → Line
+given None more = Bad
+given (Some n) more = more n
 
 -- Goes on with the next field read so, and with the fields after it.
-abbrev pub next_field : (List ℕ → Number) → List (List ℕ) → (ℕ → List (List ℕ) → Line) → Line
+abbrev pub next_field : (List ℕ → Option ℕ) → List (List ℕ) → (ℕ → List (List ℕ) → Line) → Line
 next_field read [] more = Bad
 next_field read (f ∷ fs) more = given (read f) (λ n. more n fs)
 
@@ -29,15 +27,15 @@ last [] line = line
 last (f ∷ fs) line = Bad
 
 -- "The record words are segment, partition, right, flow and slot"
-unfoldable pub word_of : List ℕ → Kind
+unfoldable pub word_of : List ℕ → Option Kind
 word_of word =
-    cond (same word (bytes_of "segment")) OfSegment
-    (cond (same word (bytes_of "partition")) OfPartition
-    (cond (same word (bytes_of "right")) OfRight
-    (cond (same word (bytes_of "flow")) OfFlow
-    (cond (same word (bytes_of "slot")) OfSlot Unknown))))
+    cond (same word (bytes_of "segment")) (Some OfSegment)
+    (cond (same word (bytes_of "partition")) (Some OfPartition)
+    (cond (same word (bytes_of "right")) (Some OfRight)
+    (cond (same word (bytes_of "flow")) (Some OfFlow)
+    (cond (same word (bytes_of "slot")) (Some OfSlot) None))))
 
-module _ (read : List ℕ → Number) where
+module _ (read : List ℕ → Option ℕ) where
   -- "segment: id, base, length"
   unfoldable pub segment_line : List (List ℕ) → Line
   segment_line fs =
@@ -64,18 +62,22 @@ module _ (read : List ℕ → Number) where
   unfoldable pub slot_line : List (List ℕ) → Line
   slot_line fs = next_field read fs λ partition fs. next_field read fs λ ticks fs. last fs (Slot partition ticks)
 
-  -- What a line says, by its record word and the fields after it.
+  -- What the fields after a record word say.
   abbrev pub line_of_kind : Kind → List (List ℕ) → Line
   line_of_kind OfSegment fs = segment_line fs
   line_of_kind OfPartition fs = partition_line fs
   line_of_kind OfRight fs = right_line fs
   line_of_kind OfFlow fs = flow_line fs
   line_of_kind OfSlot fs = slot_line fs
-  line_of_kind Unknown fs = Bad
+
+  -- What a line says, by its record word and the fields after it.
+  abbrev pub line_of_word : Option Kind → List (List ℕ) → Line
+  line_of_word None fs = Bad
+  line_of_word (Some kind) fs = line_of_kind kind fs
 
   unfoldable pub line_by : List (List ℕ) → Line
   line_by [] = Bad
-  line_by (word ∷ fs) = line_of_kind (word_of word) fs
+  line_by (word ∷ fs) = line_of_word (word_of word) fs
 
   -- "Lines end in hex 0A, the last one too": what stands after the last line end is one more line, and a bad one, unless
   -- it is empty.

@@ -1,9 +1,8 @@
 -- 01, "The policy text": "Numbers have 1 to 5 digits and no leading zero, except 0 itself." 02, S-4: "In all places where
 -- a number stands, 0x and one to four digits 0–9 or a–f is now read too, without a leading zero except in 0x0."
-use Rattle.std.specs.Prelude.{ℕ, ◌+◌, ◌-◌, ◌*◌, Bool, true, false, ◌&&◌, ◌||◌, not, cond, List, [], ◌∷◌, length, take, drop, eqb, leb, ltb}
+use Rattle.std.specs.Prelude.{ℕ, ◌+◌, ◌-◌, ◌*◌, Bool, true, false, ◌&&◌, ◌||◌, not, cond, List, [], ◌∷◌, length, take, drop, eqb, leb, ltb, Option, Some, None}
+use Rattle.std.specs.Option.{option_or}
 use Rattle.text.specs.Bytes.{bytes_of, same}
-use Rattle.text.specs.declared.line.Number.{Number}
-use Rattle.text.specs.declared.line.Number.TheVariants.{Value, Malformed}
 
 -- A way to write numbers: its base, how many digits there may be, which bytes are digits, and what each is worth.
 pub record Notation : Type 0 where
@@ -53,11 +52,11 @@ value_from form n [] = n
 value_from form n (b ∷ bs) = value_from form (n * form.base + form.worth b) bs
 
 -- What bytes write in a notation.
-abbrev pub written : Notation → List ℕ → Number
-written form digits = cond (is_number form digits) (Value (value_from form 0 digits)) Malformed
+abbrev pub written : Notation → List ℕ → Option ℕ
+written form digits = cond (is_number form digits) (Some (value_from form 0 digits)) None
 
 -- 01's numbers: all that was read before 02's S-4.
-unfoldable pub decimal : List ℕ → Number
+unfoldable pub decimal : List ℕ → Option ℕ
 decimal field = written ten field
 
 -- "0x and .."
@@ -65,21 +64,16 @@ unfoldable pub begins_hex : List ℕ → Bool
 begins_hex field = same (take 2 field) (bytes_of "0x")
 
 -- ".. one to four digits 0–9 or a–f .. without a leading zero except in 0x0. .. Refused: capitals and five digits are 2."
-unfoldable pub hexadecimal : List ℕ → Number
-hexadecimal field = cond (begins_hex field) (written sixteen (drop 2 field)) Malformed
-
--- The first of two readings that gives a number.
-abbrev pub or_else : Number → Number → Number
-or_else (Value n) other = Value n
-or_else Malformed other = other
+unfoldable pub hexadecimal : List ℕ → Option ℕ
+hexadecimal field = cond (begins_hex field) (written sixteen (drop 2 field)) None
 
 -- ".. is now read too"
-unfoldable pub number : List ℕ → Number
-number field = or_else (hexadecimal field) (decimal field)
+unfoldable pub number : List ℕ → Option ℕ
+number field = option_or (hexadecimal field) (decimal field)
 
 -- "then r, w or rw", with the record's byte for each: "0 none, 1 r, 2 w, 3 rw"
-unfoldable pub letters : List ℕ → Number
+unfoldable pub letters : List ℕ → Option ℕ
 letters field =
-    cond (same field (bytes_of "r")) (Value 1)
-    (cond (same field (bytes_of "w")) (Value 2)
-    (cond (same field (bytes_of "rw")) (Value 3) Malformed))
+    cond (same field (bytes_of "r")) (Some 1)
+    (cond (same field (bytes_of "w")) (Some 2)
+    (cond (same field (bytes_of "rw")) (Some 3) None))

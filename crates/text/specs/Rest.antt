@@ -1,16 +1,12 @@
 -- What is left of a line at a place of it, after some of its fields.
-use Rattle.std.specs.Prelude.{ℕ, ◌+◌, Bool, true, false, cond, List, ltb, length}
+use Rattle.std.specs.Prelude.{ℕ, ◌+◌, cond, List, ltb, length, Option, Some, None}
 use Rattle.text.specs.declared.read.LineRead.{LineRead}
 use Rattle.text.specs.Cut.{fields_of, line_end}
-use Rattle.text.specs.Lines.{next_field, last}
-use Rattle.text.specs.Number.{number, letters}
 use Rattle.text.specs.Places.{piece_at, end_at}
 use Rattle.text.specs.Readers.{line_found}
 use Rattle.text.specs.declared.line.Cursor.{Cursor}
-use Rattle.text.specs.declared.line.Kind.{Kind}
-use Rattle.text.specs.declared.line.Kind.TheVariants.{OfSegment, OfPartition, OfRight, OfFlow, OfSlot, Unknown}
 use Rattle.text.specs.declared.line.Line.{Line}
-use Rattle.text.specs.declared.line.Line.TheVariants.{Bad, Segment, Partition, Right, Flow, Slot}
+use Rattle.text.specs.declared.line.Line.TheVariants.{Bad}
 
 -- The fields from a place to its line's end.
 unfoldable pub fields_from : List ℕ → ℕ → List (List ℕ)
@@ -23,31 +19,8 @@ rest_read says text c =
     line_found (cond (ltb end (length text)) (says (fields_from text c.at)) Bad)
     (record { at = end + 1; line = c.line + 1 })
 
--- The kinds of which two numbers are all.
-abbrev pub has_two : Kind → Bool
-has_two OfSegment = false
-has_two OfPartition = false
-has_two OfRight = false
-has_two OfFlow = true
-has_two OfSlot = true
-has_two Unknown = false
-
--- What their two numbers say.
-abbrev pub two_say : Kind → ℕ → ℕ → Line
-two_say OfSegment a b = Bad
-two_say OfPartition a b = Bad
-two_say OfRight a b = Bad
-two_say OfFlow a b = Flow a b
-two_say OfSlot a b = Slot a b
-two_say Unknown a b = Bad
-
--- What the fields after the first number say, by the record word and that number.
-abbrev pub after_first : Kind → ℕ → List (List ℕ) → Line
-after_first OfSegment id fs = next_field number fs λ base fs. next_field number fs λ size fs. last fs (Segment id base size)
-after_first OfPartition id fs =
-    next_field number fs λ code fs. next_field number fs λ save fs. last fs (Partition id code save)
-after_first OfRight partition fs =
-    next_field number fs λ segment fs. next_field letters fs λ mode fs. last fs (Right partition segment mode)
-after_first OfFlow from fs = next_field number fs λ to fs. last fs (Flow from to)
-after_first OfSlot partition fs = next_field number fs λ ticks fs. last fs (Slot partition ticks)
-after_first Unknown n fs = Bad
+-- What a reader has taken of the rest of the n-th line, and the byte past its last field, which is past the line; nothing
+-- of a bad one.
+abbrev pub line_taken : Option Line → ℕ → ℕ → LineRead
+line_taken (Some line) past n = record { line = line; next = record { at = past; line = n + 1 } }
+line_taken None past n = record { line = Bad; next = record { at = 0; line = 0 } }

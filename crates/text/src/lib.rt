@@ -6,5 +6,5 @@
 mod line;
 mod read;
 
-pub use line::{Cursor, Kind, Line, Number};
-pub use read::{Digits, LineRead, NumberDigits, NumberRead, WordRead};
+pub use line::{Cursor, Kind, Line};
+pub use read::{Digits, LineRead, NumberDigits};

@@ -1,19 +1,12 @@
 // The reader's place: a byte of the text, and the number of the line that it stands in, from 1.
-#[derive(Clone, Copy)]
+#[derive(Clone, Copy, PartialEq, Eq, Debug)]
 pub struct Cursor {
     pub at: usize,
     pub line: u32,
 }
 
-// What a field says, read as a number or as letters.
-#[derive(Clone, Copy)]
-pub enum Number {
-    Value(u32),
-    Malformed,
-}
-
 // What a whole line says: document 01's five kinds, and the line that refusal 2 is for.
-#[derive(Clone, Copy)]
+#[derive(Clone, Copy, PartialEq, Eq, Debug)]
 pub enum Line {
     Bad,
     Segment {
@@ -42,12 +35,11 @@ pub enum Line {
 }
 
 // Which record word a field is.
-#[derive(Clone, Copy)]
+#[derive(Clone, Copy, PartialEq, Eq, Debug)]
 pub enum Kind {
-    OfSegment,
-    OfPartition,
-    OfRight,
-    OfFlow,
-    OfSlot,
-    Unknown,
+    Segment,
+    Partition,
+    Right,
+    Flow,
+    Slot,
 }

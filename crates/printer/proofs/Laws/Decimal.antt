@@ -9,8 +9,8 @@ use native.Mathlib.Decide.{dec_lt}
 use borrow.Author.Tests.{lt-ltb, le-ltb, le-leb, ne_eqb}
 use lib.ListN.{length}
 use lib.Dec.{ltb}
+use Rattle.std.specs.Prelude.{Some}
 use Rattle.text.specs.Number.{ten, zero_to_nine, all_digits, leading_zero, value_from, decimal, begins_hex, number}
-use Rattle.text.specs.declared.line.Number.TheVariants.{Value}
 use Rattle.text.proofs.Forms.{digits_unmarked as unmarked, decimal_kept}
 use Rattle.text.proofs.Laws.Numbers.{written_is}
 use Rattle.printer.specs.Decimal.{digit, digits, digits_before}
@@ -107,11 +107,11 @@ all_digits_lem n h = digits_all _ n [] h refl
 digits_unmarked : (n : ℕ) → n < 100000 → begins_hex (digits n) ≡ false
 digits_unmarked n h = unmarked (digits n) (all_digits_lem n h)
 
-digits_decimal : (n : ℕ) → n < 100000 → decimal (digits n) ≡ Value n
+digits_decimal : (n : ℕ) → n < 100000 → decimal (digits n) ≡ Some n
 unfolding decimal digits value_from
 digits_decimal n h =
     written_is ten (digits n) (some_before _ n []) (width_before _ n []) (all_digits_lem n h) (no_zero_leads n)
-    ∙ ap Value (value_before _ n [])
+    ∙ ap Some (value_before _ n [])
 
-pub digits_number : (n : ℕ) → n < 100000 → number (digits n) ≡ Value n
+pub digits_number : (n : ℕ) → n < 100000 → number (digits n) ≡ Some n
 digits_number n h = decimal_kept (digits n) (digits_unmarked n h) ∙ digits_decimal n h

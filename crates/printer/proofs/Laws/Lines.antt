@@ -5,13 +5,13 @@ use mathlib.Core.Bool.{true}
 use mathlib.Core.List.{List, [], ◌∷◌, ◌++◌, append_assoc}
 use native.Mathlib.Omega.{arith}
 use lib.ListN.{length}
+use Rattle.std.specs.Prelude.{Some}
 use Rattle.text.specs.Cut.{cut, line_end, fields_of}
 use Rattle.text.specs.Bytes.{same}
 use Rattle.text.specs.Number.{number, letters}
 use Rattle.text.specs.Lines.{line_of, line_by, lines_of, lines_by, lines_of_pieces, word_of, segment_line, partition_line, right_line, flow_line, slot_line}
 use Rattle.text.specs.declared.line.Line.{Line}
 use Rattle.text.specs.declared.line.Line.TheVariants.{Bad, Segment, Partition, Right, Flow, Slot}
-use Rattle.text.specs.declared.line.Number.TheVariants.{Value}
 use Rattle.printer.specs.Decimal.{digits}
 use Rattle.printer.specs.Printer.{letters_of, word_of_line, fields_of_line, parted, text_of_line, text_of_lines}
 use Rattle.printer.proofs.Laws.Decimal.{digits_number, all_digits_lem}
@@ -43,9 +43,9 @@ letters-cases P r w rw' (suc (suc zero)) l m = w
 letters-cases P r w rw' (suc (suc (suc zero))) l m = rw'
 letters-cases P r w rw' (suc (suc (suc (suc n)))) l m = absurd (omega arith)
 
-letters_back : (mode : ℕ) → 1 ≤ mode → mode ≤ 3 → letters (letters_of mode) ≡ Value mode
+letters_back : (mode : ℕ) → 1 ≤ mode → mode ≤ 3 → letters (letters_of mode) ≡ Some mode
 unfolding letters letters_of same
-letters_back = letters-cases (λ mode. letters (letters_of mode) ≡ Value mode) refl refl refl
+letters_back = letters-cases (λ mode. letters (letters_of mode) ≡ Some mode) refl refl refl
 
 letters_plain : (mode : ℕ) → 1 ≤ mode → mode ≤ 3 → plain (letters_of mode) ≡ true
 unfolding plain letters_of

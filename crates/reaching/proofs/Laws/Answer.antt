@@ -6,6 +6,7 @@ use mathlib.Core.List.{List}
 use native.Mathlib.Omega.{arith}
 use borrow.Author.Tests.{leb-false}
 use lib.ListN.{length, length-append}
+use Rattle.std.specs.Prelude.{Option, Some, None}
 use Rattle.policy.specs.declared.record.Asked.{Asked}
 use Rattle.policy.specs.declared.record.Asked.TheVariants.{Answered, Unsound, NoSegment}
 use Rattle.policy.specs.Asked.{asked_number, is_answered}
@@ -77,12 +78,12 @@ answer_short limits t s u few = go (is_answered asked) refl (can_reach_answer (u
     go false e y = refused_length (asked_number asked) 0 (asked_small asked) (omega arith)
 
 -- What is written, by what the words ask and what reading answers.
-module _ (limits : Limits) (text words : List ℕ) {w : Words} (e : w ≡ words_of words) where
-  pub question_none : w.asks ≡ false → question_of limits text words ≡ usage
+module _ (limits : Limits) (text words : List ℕ) {o : Option Words} (e : o ≡ words_of words) where
+  pub question_none : o ≡ None → question_of limits text words ≡ usage
   unfolding question_of
   question_none h = rw (← e, h)
 
-  module _ (h : w.asks ≡ true) {a : Answer} (f : a ≡ read_of limits text) where
+  module _ {w : Words} (h : o ≡ Some w) {a : Answer} (f : a ≡ read_of limits text) where
     pub question_refused : is_accepted a.refusal ≡ false → question_of limits text words ≡ refused_row a.refusal
     unfolding question_of question_line
     question_refused r = rw (← e, h, ← f, r)

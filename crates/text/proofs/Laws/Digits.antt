@@ -10,6 +10,7 @@ use borrow.Author.Tests.{leb-true}
 use lib.Dec.{eqb, leb, ltb}
 use lib.ListN.{length, drop, get_or, length-append, length-drop}
 use lib.Seq.{get_or-drop}
+use Rattle.std.specs.Prelude.{Some, None}
 use Rattle.text.proofs.Laws.Bools.{and_left, and_right}
 use Rattle.text.proofs.Laws.Ends.{field_in, field_nil, field_tab, field_line, field_more, field_within}
 use Rattle.text.proofs.Laws.Stops.{parts, stop_in, field_none}
@@ -19,7 +20,6 @@ use Rattle.text.specs.Digits.{digits_in, digits_read}
 use Rattle.text.specs.declared.read.Digits.{Digits}
 use Rattle.text.specs.Cut.{line_end}
 use Rattle.text.specs.Number.{Notation, ten, sixteen, zero_to_nine, a_to_f, written, all_digits, leading_zero}
-use Rattle.text.specs.declared.line.Number.TheVariants.{Value, Malformed}
 
 pub nine : (b : ℕ) → zero_to_nine b ≡ true → (0x30 ≤ b) × (b ≤ 0x39)
 nine b e =
@@ -160,10 +160,10 @@ module _ (form : Notation) (p : Proper form) where
       whole_stop = rw (whole, stop_is)
 
     -- Another byte ends the field than the one after the digits.
-    pub open_written : (stop_in ahead ≡ d.stop → ⊥) → written form (field_in ahead) ≡ Malformed
+    pub open_written : (stop_in ahead ≡ d.stop → ⊥) → written form (field_in ahead) ≡ None
     open_written f = go left refl
       where
-        go : (m : List ℕ) → left ≡ m → written form (field_in ahead) ≡ Malformed
+        go : (m : List ℕ) → left ≡ m → written form (field_in ahead) ≡ None
         go [] q = absurd (f (whole_stop q))
         go (x ∷ m) q = written_other form (field_in ahead) (goes_on ahead (omega (arith, ap length q)))
 
@@ -188,10 +188,10 @@ module _ (form : Notation) (p : Proper form) where
         count_is : n ≡ length digits
         count_is = m ∙ rw (end_is, add-sub_cancel_left)
 
-        pub none_written : n < 1 → written form (field_in ahead) ≡ Malformed
+        pub none_written : n < 1 → written form (field_in ahead) ≡ None
         none_written h = rw (whole nothing) (written_empty form digits (omega (arith, count_is)))
 
-        pub many_written : form.most < n → written form (field_in ahead) ≡ Malformed
+        pub many_written : form.most < n → written form (field_in ahead) ≡ None
         many_written h = rw (whole nothing) (written_long form digits (omega (arith, count_is)))
 
         module _ (some : 1 ≤ n) where
@@ -205,16 +205,16 @@ module _ (form : Notation) (p : Proper form) where
                 ← count_is,
               )
 
-          pub led_written : eqb (get_or text from 0) 0x30 && ltb 1 n ≡ true → written form (field_in ahead) ≡ Malformed
+          pub led_written : eqb (get_or text from 0) 0x30 && ltb 1 n ≡ true → written form (field_in ahead) ≡ None
           led_written h = rw (whole nothing) (written_led form digits (zero_led ∙ h))
 
           pub fit_written :
               n ≤ form.most → eqb (get_or text from 0) 0x30 && ltb 1 n ≡ false
-              → written form (field_in ahead) ≡ Value d.value
+              → written form (field_in ahead) ≡ Some d.value
           unfolding digits_read
           fit_written h k =
               let most : length digits ≤ form.most = omega (arith, count_is) in
               rw (whole nothing)
               (written_is form digits (omega (arith, count_is)) most (digits_all form ahead) (zero_led ∙ k))
-              ∙ ap Value
+              ∙ ap Some
               (sym (value_fits form p digits (digits_all form ahead) most) ∙ sym (ap (λ r. r.value) e))

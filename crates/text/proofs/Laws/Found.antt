@@ -9,6 +9,7 @@ use borrow.Author.Tests.{ltb-true, ltb-false, eq-eqb, ne_eqb, eqb-true, eqb-fals
 use lib.Dec.{eqb, ltb}
 use lib.ListN.{length, drop, get_or, length-drop}
 use lib.Seq.{drop-drop, get_or-drop}
+use Rattle.std.specs.Prelude.{Option, Some, None}
 use Rattle.text.proofs.Forms.{decimal_kept, hex_only, number_hex}
 use Rattle.text.proofs.Laws.Bools.{or_left, or_right, and_left, and_right}
 use Rattle.text.proofs.Laws.Scan.{digits_on, on_begin}
@@ -16,17 +17,16 @@ use Rattle.text.proofs.Laws.Digits.{nine, proper_ten, proper_sixteen, digits_lea
 use Rattle.text.proofs.Laws.Digits.{ended_stop, ended_end, none_written, many_written, led_written, fit_written}
 use Rattle.text.proofs.Laws.Ends.{field_in, field_nil, field_tab, field_line, field_more}
 use Rattle.text.proofs.Laws.Numbers.{Proper}
+use Rattle.text.proofs.Laws.Readers.{no_value}
 use Rattle.text.proofs.Laws.Stops.{parts, stop_in, field_is, end_is, stop_is}
 use Rattle.text.specs.Bytes.{same}
-use Rattle.text.specs.Digits.{digits_in, digits_read, as_number, marks, number_digits}
+use Rattle.text.specs.Digits.{digits_in, digits_read, of_number, as_number, marks, number_digits}
 use Rattle.text.specs.declared.read.Digits.{Digits}
 use Rattle.text.specs.declared.read.NumberDigits.{NumberDigits}
-use Rattle.text.specs.declared.read.NumberRead.{NumberRead}
 use Rattle.text.specs.Cut.{tab, line_end}
 use Rattle.text.specs.Number.{Notation, ten, sixteen, zero_to_nine, written, value_from, decimal, begins_hex, hexadecimal, number}
-use Rattle.text.specs.Readers.{number_found, field_read}
+use Rattle.text.specs.Readers.{Found, found, field_read}
 use Rattle.text.specs.declared.line.Cursor.{Cursor}
-use Rattle.text.specs.declared.line.Number.TheVariants.{Value, Malformed}
 
 -- Whether a field begins with 0x, by the first two bytes.
 module _ (x : ℕ) (l : List ℕ) where
@@ -119,19 +119,37 @@ marks_is from (x ∷ l) = first (zero_to_nine x) refl l
     first true e [] = rw e (sym (begins_is (x ∷ []) ∙ and-false (eqb x 0x30)))
     first true e (y ∷ m) = second e y m (zero_to_nine y) refl
 
+-- Digits are a number's just if the byte that ends them stands there.
+module _ (form : Notation) (end from : ℕ) (g : Digits) where
+  number_ended : {d : NumberDigits} → as_number form end from g ≡ Some d → (eqb g.stop end ≡ true) × (d ≡ of_number form from g)
+  number_ended {d} = go (eqb g.stop end) refl
+    where
+      go :
+          (t : Bool) → eqb g.stop end ≡ t → cond t (Some (of_number form from g)) None ≡ Some d
+          → (eqb g.stop end ≡ true) × (d ≡ of_number form from g)
+      go true q e = (q, cc)
+      go false q e = absurd (no_value e)
+
+  number_open : as_number form end from g ≡ None → eqb g.stop end ≡ false
+  number_open = go (eqb g.stop end) refl
+    where
+      go : (t : Bool) → eqb g.stop end ≡ t → cond t (Some (of_number form from g)) None ≡ None → eqb g.stop end ≡ false
+      go true q e = absurd (no_value (sym e))
+      go false q e = q
+
 -- How the number at a place is read: in which notation, from where on, and what digits stand there.
 module _ (end : ℕ) (text : List ℕ) (from : ℕ) (inside : from ≤ length text) where
   abbrev field : List ℕ
   field = field_in (drop from text)
 
-  record ReadAs (d : NumberDigits) : Type 0 where
+  record ReadAs (m : Option NumberDigits) : Type 0 where
     form : Notation
     proper : Proper form
     start : ℕ
     within : start ≤ length text
     digits : Digits
     read : digits ≡ digits_read form text start
-    is : d ≡ as_number form end start digits
+    is : m ≡ as_number form end start digits
     says : number field ≡ written form (field_in (drop start text))
     ends : from + length field ≡ start + length (field_in (drop start text))
 
@@ -172,24 +190,24 @@ module _ (end : ℕ) (text : List ℕ) (from : ℕ) (inside : from ≤ length te
         ends = omega (arith, ap length shape);
       }
 
-  read_as : {d : NumberDigits} → d ≡ number_digits end text from → ReadAs d
+  read_as : {m : Option NumberDigits} → m ≡ number_digits end text from → ReadAs m
   unfolding number_digits
-  read_as {d} q = go (begins_hex field) refl
+  read_as {m} q = go (begins_hex field) refl
     where
       marked : marks from (digits_read ten text from) ≡ begins_hex field
       marked = ap (marks from) (on_begin ten text from) ∙ marks_is from (drop from text)
 
-      go : (t : Bool) → begins_hex field ≡ t → ReadAs d
+      go : (t : Bool) → begins_hex field ≡ t → ReadAs m
       go true e =
-          let hex : d ≡ as_number sixteen end (from + 2) (digits_read sixteen text (from + 2)) = q ∙ rw (marked ∙ e) in
+          let hex : m ≡ as_number sixteen end (from + 2) (digits_read sixteen text (from + 2)) = q ∙ rw (marked ∙ e) in
           rw hex (read_hex e)
       go false e =
-          let dec : d ≡ as_number ten end from (digits_read ten text from) = q ∙ rw (marked ∙ e) in rw dec (read_decimal e)
+          let dec : m ≡ as_number ten end from (digits_read ten text from) = q ∙ rw (marked ∙ e) in rw dec (read_decimal e)
 
 -- What the field there says, if this byte ends it.
 module _ (end : ℕ) (p : parts end ≡ true) (text : List ℕ) (c : Cursor) (inside : c.at ≤ length text) where
-  abbrev stays : NumberRead
-  stays = record { number = Malformed; next = record { at = c.at; line = c.line } }
+  abbrev stays : Found ℕ
+  stays = record { said = None; next = c }
 
   abbrev ahead : List ℕ
   ahead = field end text c.at inside
@@ -202,28 +220,16 @@ module _ (end : ℕ) (p : parts end ≡ true) (text : List ℕ) (c : Cursor) (in
 
   read_is :
       field_read number end text c
-      ≡ number_found (cond (eqb stop end) (number ahead) Malformed) past c
+      ≡ found (cond (eqb stop end) (number ahead) None) past c
   unfolding field_read
   read_is = rw (stop_is text c.at, field_is text c.at, end_is text c.at)
 
-  module _ {d : NumberDigits} (q : d ≡ number_digits end text c.at) where
-    abbrev how : ReadAs end text c.at inside d
+  module _ {m : Option NumberDigits} (q : m ≡ number_digits end text c.at) where
+    abbrev how : ReadAs end text c.at inside m
     how = read_as end text c.at inside q
 
     abbrev there : List ℕ
     there = drop how.start text
-
-    from_is : d.from ≡ how.start
-    from_is = ap (λ r. r.from) how.is
-
-    last_is : d.end ≡ how.digits.end
-    last_is = ap (λ r. r.end) how.is
-
-    most_is : d.most ≡ how.form.most
-    most_is = ap (λ r. r.most) how.is
-
-    ended_is : (t : Bool) → d.ended ≡ t → eqb how.digits.stop end ≡ t
-    ended_is t f = sym (ap (λ r. r.ended) how.is) ∙ f
 
     -- The byte that ends the field is the one that ends the digits' own.
     same_stop : stop ≡ stop_in there
@@ -233,18 +239,12 @@ module _ (end : ℕ) (p : parts end ≡ true) (text : List ℕ) (c : Cursor) (in
         ∙ ap (λ (k : ℕ). get_or text k 0) how.ends
         ∙ sym (get_or-drop how.start text (length (field_in there)) 0)
 
-    pub number_within : (d.from ≤ d.end) × (d.end ≤ length text)
-    number_within = (
-      omega (arith, from_is, last_is, digits_least how.form how.proper text how.start how.read),
-      omega (arith, last_is, digits_within how.form how.proper text how.start how.read how.within),
-    )
-
-    pub not_ended : d.ended ≡ false → stays ≡ field_read number end text c
+    pub not_ended : m ≡ None → stays ≡ field_read number end text c
     not_ended f = sym (read_is ∙ go (eqb stop end) refl)
       where
-        go : (t : Bool) → eqb stop end ≡ t → number_found (cond t (number ahead) Malformed) past c ≡ stays
+        go : (t : Bool) → eqb stop end ≡ t → found (cond t (number ahead) None) past c ≡ stays
         go true e =
-            let other = eqb-false how.digits.stop end (ended_is false f) in
+            let other = eqb-false how.digits.stop end (number_open how.form end how.start how.digits (sym how.is ∙ f)) in
             rw (
             how.says
             ∙ open_written how.form how.proper text how.start how.read
@@ -252,9 +252,27 @@ module _ (end : ℕ) (p : parts end ≡ true) (text : List ℕ) (c : Cursor) (in
             )
         go false e = refl
 
-    module _ (f : d.ended ≡ true) where
+    module _ {d : NumberDigits} (f : m ≡ Some d) where
+      abbrev ended : (eqb how.digits.stop end ≡ true) × (d ≡ of_number how.form how.start how.digits)
+      ended = number_ended how.form end how.start how.digits (sym how.is ∙ f)
+
+      from_is : d.from ≡ how.start
+      from_is = ap (λ r. r.from) ended.1
+
+      last_is : d.end ≡ how.digits.end
+      last_is = ap (λ r. r.end) ended.1
+
+      most_is : d.most ≡ how.form.most
+      most_is = ap (λ r. r.most) ended.1
+
+      pub number_within : (d.from ≤ d.end) × (d.end ≤ length text)
+      number_within = (
+        omega (arith, from_is, last_is, digits_least how.form how.proper text how.start how.read),
+        omega (arith, last_is, digits_within how.form how.proper text how.start how.read how.within),
+      )
+
       at_end : how.digits.stop ≡ end
-      at_end = eqb-true how.digits.stop end (ended_is true f)
+      at_end = eqb-true how.digits.stop end ended.0
 
       parted : parts how.digits.stop ≡ true
       parted = ap parts at_end ∙ p
@@ -264,12 +282,12 @@ module _ (end : ℕ) (p : parts end ≡ true) (text : List ℕ) (c : Cursor) (in
           eq-eqb stop end
           (same_stop ∙ ended_stop how.form how.proper text how.start how.read parted ∙ at_end)
 
-      said_none : written how.form (field_in there) ≡ Malformed → stays ≡ field_read number end text c
+      said_none : written how.form (field_in there) ≡ None → stays ≡ field_read number end text c
       said_none e = sym (read_is ∙ rw (stop_end, how.says ∙ e))
 
-      module _ {n : ℕ} (m : n ≡ d.end - d.from) where
+      module _ {n : ℕ} (count_of : n ≡ d.end - d.from) where
         count : n ≡ how.digits.end - how.start
-        count = omega (arith, m, last_is, from_is)
+        count = omega (arith, count_of, last_is, from_is)
 
         pub no_number : ltb n 1 || ltb d.most n ≡ true → stays ≡ field_read number end text c
         no_number = go (ltb n 1) refl (ltb d.most n) refl
@@ -294,7 +312,7 @@ module _ (end : ℕ) (p : parts end ≡ true) (text : List ℕ) (c : Cursor) (in
           few = omega (arith, most_is, ltb-false d.most n (or_right (ltb n 1) (ltb d.most n) fits))
 
           pub number_some : d.from < length text
-          number_some = omega (arith, some, m, number_within)
+          number_some = omega (arith, some, count_of, number_within)
 
           abbrev led : Bool
           led = eqb (get_or text d.from 0) 0x30 && ltb 1 n
@@ -309,7 +327,7 @@ module _ (end : ℕ) (p : parts end ≡ true) (text : List ℕ) (c : Cursor) (in
 
           pub number_there :
               led ≡ false
-              → record { number = Value d.value; next = record { at = d.end + 1; line = c.line } }
+              → record { said = Some d.value; next = record { at = d.end + 1; line = c.line } }
               ≡ field_read number end text c
           number_there e =
               let is =
@@ -317,5 +335,5 @@ module _ (end : ℕ) (p : parts end ≡ true) (text : List ℕ) (c : Cursor) (in
               ∙ fit_written how.form how.proper text how.start how.read parted count some few
               (led_is false e) in
               let ends = how.ends ∙ ended_end how.form how.proper text how.start how.read parted in
-              ap (λ (r : NumberDigits). number_found (Value r.value) (record { at = r.end + 1; line = c.line }) c) how.is
+              ap (λ (r : NumberDigits). found (Some r.value) (record { at = r.end + 1; line = c.line }) c) ended.1
               ∙ sym (read_is ∙ rw (stop_end, is, ends))

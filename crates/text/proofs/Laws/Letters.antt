@@ -4,14 +4,13 @@ use mathlib.Core.Path.{◌≡◌, refl}
 use mathlib.Core.Bool.{Bool, true, false, cond}
 use mathlib.Core.List.{List, [], ◌∷◌}
 use native.Mathlib.Omega.{arith}
+use Rattle.std.specs.Prelude.{Option, Some, None}
 use Rattle.text.specs.Bytes.{bytes_of, same}
 use Rattle.text.specs.Cut.{cut, fields_of, line_end}
 use Rattle.text.specs.Number.{letters}
-use Rattle.text.specs.Lines.{given, next_field, last, segment_line, partition_line, right_line, flow_line, slot_line, word_of, line_of_kind, line_by, lines_of_pieces, lines_by}
-use Rattle.text.specs.declared.line.Number.{Number}
-use Rattle.text.specs.declared.line.Number.TheVariants.{Value, Malformed}
+use Rattle.text.specs.Lines.{given, next_field, last, segment_line, partition_line, right_line, flow_line, slot_line, word_of, line_of_kind, line_of_word, line_by, lines_of_pieces, lines_by}
 use Rattle.text.specs.declared.line.Kind.{Kind}
-use Rattle.text.specs.declared.line.Kind.TheVariants.{OfSegment, OfPartition, OfRight, OfFlow, OfSlot, Unknown}
+use Rattle.text.specs.declared.line.Kind.TheVariants.{Segment as OfSegment, Partition as OfPartition, Right as OfRight, Flow as OfFlow, Slot as OfSlot}
 use Rattle.text.specs.declared.line.Line.{Line}
 use Rattle.text.specs.declared.line.Line.TheVariants.{Bad, Segment, Partition, Right, Flow, Slot}
 
@@ -27,33 +26,33 @@ abbrev pub AllLettered : List Line → Type 0
 AllLettered [] = Unit
 AllLettered (line ∷ lines) = Lettered line × AllLettered lines
 
-letters_few : (f : List ℕ) (n : ℕ) → letters f ≡ Value n → n ≤ 3
+letters_few : (f : List ℕ) (n : ℕ) → letters f ≡ Some n → n ≤ 3
 unfolding letters
 letters_few f n = go (same f (bytes_of "r")) (same f (bytes_of "w")) (same f (bytes_of "rw"))
   where
-    go : (a b c : Bool) → cond a (Value 1) (cond b (Value 2) (cond c (Value 3) Malformed)) ≡ Value n → n ≤ 3
+    go : (a b c : Bool) → cond a (Some 1) (cond b (Some 2) (cond c (Some 3) None)) ≡ Some n → n ≤ 3
     go true b c e = let q : 1 ≡ n = cc in omega arith
     go false true c e = let q : 2 ≡ n = cc in omega arith
     go false false true e = let q : 3 ≡ n = cc in omega arith
     go false false false e = let q : ◌≡◌ {A = ℕ} 0 1 = cc in omega arith
 
 -- the next field, whatever it says
-module _ (read : List ℕ → Number) (few : ℕ → Type 0) (is : (f : List ℕ) (n : ℕ) → read f ≡ Value n → few n) where
+module _ (read : List ℕ → Option ℕ) (few : ℕ → Type 0) (is : (f : List ℕ) (n : ℕ) → read f ≡ Some n → few n) where
   next_lettered : (fs : List (List ℕ)) (more : ℕ → List (List ℕ) → Line) →
       ((n : ℕ) → few n → (fs : List (List ℕ)) → Lettered (more n fs)) → Lettered (next_field read fs more)
   next_lettered [] more h = tt
   next_lettered (f ∷ fs) more h = go (read f) refl
     where
-      go : (a : Number) → read f ≡ a → Lettered (given a (λ n. more n fs))
-      go Malformed e = tt
-      go (Value n) e = h n (is f n e) fs
+      go : (a : Option ℕ) → read f ≡ a → Lettered (given a (λ n. more n fs))
+      go None e = tt
+      go (Some n) e = h n (is f n e) fs
 
 last_lettered : (fs : List (List ℕ)) (line : Line) → Lettered line → Lettered (last fs line)
 last_lettered [] line h = h
 last_lettered (f ∷ fs) line h = tt
 
 -- The lines that any reader of numbers gives.
-module _ (read : List ℕ → Number) where
+module _ (read : List ℕ → Option ℕ) where
   number_lettered : (fs : List (List ℕ)) (more : ℕ → List (List ℕ) → Line) →
       ((n : ℕ) (fs : List (List ℕ)) → Lettered (more n fs)) → Lettered (next_field read fs more)
   number_lettered fs more h = next_lettered read (λ n. Unit) (λ f n e. tt) fs more (λ n u fs. h n fs)
@@ -91,12 +90,15 @@ module _ (read : List ℕ → Number) where
   kind_lettered OfRight fs = right_lettered fs
   kind_lettered OfFlow fs = flow_lettered fs
   kind_lettered OfSlot fs = slot_lettered fs
-  kind_lettered Unknown fs = tt
+
+  word_lettered : (kind : Option Kind) (fs : List (List ℕ)) → Lettered (line_of_word read kind fs)
+  word_lettered (Some kind) fs = kind_lettered kind fs
+  word_lettered None fs = tt
 
   pub line_lettered : (fs : List (List ℕ)) → Lettered (line_by read fs)
   unfolding line_by
   line_lettered [] = tt
-  line_lettered (word ∷ fs) = kind_lettered (word_of word) fs
+  line_lettered (word ∷ fs) = word_lettered (word_of word) fs
 
   pieces_lettered : (ps : List (List ℕ)) → AllLettered (lines_of_pieces read ps)
   unfolding lines_of_pieces

@@ -11,10 +11,10 @@ use native.Mathlib.Omega.{arith}
 use borrow.Author.Tests.{le-leb, lt-leb}
 use lib.Dec.{eqb, ltb, leb-suc-suc}
 use lib.ListN.{length, get_or}
+use Rattle.std.specs.Prelude.{Some, None}
 use Rattle.text.proofs.Laws.Bools.{and_left, and_right}
 use Rattle.text.specs.Cut.{line_end}
 use Rattle.text.specs.Number.{Notation, written, is_number, all_digits, value_from, leading_zero}
-use Rattle.text.specs.declared.line.Number.TheVariants.{Value, Malformed}
 
 -- Digits stand above the line end and are worth less than the base, and a number fits four bytes.
 pub record Proper (form : Notation) : Type 0 where
@@ -28,25 +28,25 @@ zero_is [] h = absurd (omega arith)
 zero_is (b ∷ l) h = rw leb-suc-suc
 
 module _ (form : Notation) (l : List ℕ) where
-  pub written_empty : length l < 1 → written form l ≡ Malformed
+  pub written_empty : length l < 1 → written form l ≡ None
   unfolding is_number
   written_empty h = rw (lt-leb 1 (length l) h)
 
-  pub written_long : form.most < length l → written form l ≡ Malformed
+  pub written_long : form.most < length l → written form l ≡ None
   unfolding is_number
   written_long h = rw (lt-leb (length l) form.most h, and-false)
 
-  pub written_led : leading_zero l ≡ true → written form l ≡ Malformed
+  pub written_led : leading_zero l ≡ true → written form l ≡ None
   unfolding is_number
   written_led e = rw (e, and-false)
 
-  pub written_other : all_digits form l ≡ false → written form l ≡ Malformed
+  pub written_other : all_digits form l ≡ false → written form l ≡ None
   unfolding is_number
   written_other e = rw (e, and-false)
 
   pub written_is :
       1 ≤ length l → length l ≤ form.most → all_digits form l ≡ true → leading_zero l ≡ false
-      → written form l ≡ Value (value_from form 0 l)
+      → written form l ≡ Some (value_from form 0 l)
   unfolding is_number
   written_is h k d e = rw (le-leb 1 (length l) h, le-leb (length l) form.most k, d, e)
 

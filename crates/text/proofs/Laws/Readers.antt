@@ -8,32 +8,29 @@ use native.Mathlib.Omega.{arith}
 use borrow.Author.Tests.{lt-ltb, le-ltb, eqb-true, eqb-false}
 use lib.Dec.{eqb, ltb}
 use lib.ListN.{length}
+use Rattle.std.specs.Prelude.{Option, Some, None}
 use Rattle.text.proofs.Laws.Cut.{cut_next}
 use Rattle.text.proofs.Laws.Fields.{by_stop, step_tab, step_end}
 use Rattle.text.specs.declared.read.LineRead.{LineRead}
-use Rattle.text.specs.declared.read.NumberRead.{NumberRead}
-use Rattle.text.specs.declared.read.WordRead.{WordRead}
 use Rattle.text.specs.Cut.{tab, line_end}
-use Rattle.text.specs.Lines.{given, next_field, word_of, line_of_kind, line_by, line_of}
+use Rattle.text.specs.Lines.{given, next_field, word_of, line_of_word, line_by, line_of}
 use Rattle.text.specs.Lines.{segment_line, partition_line, right_line, flow_line, slot_line}
 use Rattle.text.specs.Number.{number}
 use Rattle.text.specs.Places.{piece_at, end_at}
-use Rattle.text.specs.Readers.{field_at, field_end, stop_at, past_field, number_found, field_read, word_found, word_read, line_found}
+use Rattle.text.specs.Readers.{field_at, field_end, stop_at, past_field, Found, found, field_read, word_read, line_found}
 use Rattle.text.specs.Rest.{fields_from, rest_read}
 use Rattle.text.specs.declared.line.Cursor.{Cursor}
 use Rattle.text.specs.declared.line.Kind.{Kind}
-use Rattle.text.specs.declared.line.Kind.TheVariants.{OfSegment, OfPartition, OfRight, OfFlow, OfSlot, Unknown}
+use Rattle.text.specs.declared.line.Kind.TheVariants.{Segment as OfSegment, Partition as OfPartition, Right as OfRight, Flow as OfFlow, Slot as OfSlot}
 use Rattle.text.specs.declared.line.Line.{Line}
 use Rattle.text.specs.declared.line.Line.TheVariants.{Bad}
-use Rattle.text.specs.declared.line.Number.{Number}
-use Rattle.text.specs.declared.line.Number.TheVariants.{Value, Malformed}
 
 -- Nothing is read past a bad line.
 abbrev pub nothing : LineRead
 nothing = record { line = Bad; next = record { at = 0; line = 0 } }
 
-pub no_value : {n : ℕ} → Malformed ≡ Value n → ⊥
-no_value e = let z : ◌≡◌ {A = ℕ} 0 1 = cc in absurd (omega arith)
+pub no_value : {T : Type 0} {v : T} → None ≡ Some v → ⊥
+no_value e = cc
 
 pub rest_bad : (text : List ℕ) (c : Cursor) → rest_read (λ fs. Bad) text c ≡ nothing
 unfolding rest_read
@@ -51,27 +48,19 @@ unfolding rest_read
 rest_same says other text c e = rw e
 
 -- What is bad for every value of a field is bad for the field.
-given_bad : (more : ℕ → Line) → ((n : ℕ) → more n ≡ Bad) → (v : Number) → given v more ≡ Bad
-given_bad more h (Value n) = h n
-given_bad more h Malformed = refl
-
-abbrev pub known : Kind → Bool
-known OfSegment = true
-known OfPartition = true
-known OfRight = true
-known OfFlow = true
-known OfSlot = true
-known Unknown = false
+given_bad : (more : ℕ → Line) → ((n : ℕ) → more n ≡ Bad) → (v : Option ℕ) → given v more ≡ Bad
+given_bad more h (Some n) = h n
+given_bad more h None = refl
 
 -- No line is a record word alone.
-alone : (k : Kind) → line_of_kind number k [] ≡ Bad
+alone : (k : Option Kind) → line_of_word number k [] ≡ Bad
 unfolding segment_line partition_line right_line flow_line slot_line
-alone OfSegment = refl
-alone OfPartition = refl
-alone OfRight = refl
-alone OfFlow = refl
-alone OfSlot = refl
-alone Unknown = refl
+alone (Some OfSegment) = refl
+alone (Some OfPartition) = refl
+alone (Some OfRight) = refl
+alone (Some OfFlow) = refl
+alone (Some OfSlot) = refl
+alone None = refl
 
 module _ (text : List ℕ) (c : Cursor) where
   abbrev from : ℕ
@@ -113,61 +102,40 @@ module _ (text : List ℕ) (c : Cursor) where
     rest_open h = rw (le-ltb (end_at line_end text from) (length text) h)
 
   -- A reader of a field that a byte is to end, as it is read or not.
-  module _ (read : List ℕ → Number) (end : ℕ) (P : NumberRead → Type 0) where
+  module _ {T : Type 0} (read : List ℕ → Option T) (end : ℕ) (P : Found T → Type 0) where
     pub by_field :
-        ((n : ℕ) → stop_at text from ≡ end → read (field_at text from) ≡ Value n
-        → P (record { number = Value n; next = past_field text c }))
-        → ((stop_at text from ≡ end → read (field_at text from) ≡ Malformed) → P (record { number = Malformed; next = c }))
+        ((v : T) → stop_at text from ≡ end → read (field_at text from) ≡ Some v
+        → P (record { said = Some v; next = past_field text c }))
+        → ((stop_at text from ≡ end → read (field_at text from) ≡ None) → P (record { said = None; next = c }))
         → P (field_read read end text c)
     unfolding field_read
     by_field taken none = go (eqb (stop_at text from) end) refl (read (field_at text from)) refl
       where
         go :
-            (t : Bool) → eqb (stop_at text from) end ≡ t → (v : Number) → read (field_at text from) ≡ v
-            → P (number_found (cond t (read (field_at text from)) Malformed) (past_field text c) c)
-        go true e (Value n) q = rw q (taken n (eqb-true _ _ e) q)
-        go true e Malformed q = rw q (none (λ s. q))
+            (t : Bool) → eqb (stop_at text from) end ≡ t → (v : Option T) → read (field_at text from) ≡ v
+            → P (found (cond t (read (field_at text from)) None) (past_field text c) c)
+        go true e (Some v) q = rw q (taken v (eqb-true _ _ e) q)
+        go true e None q = rw q (none (λ s. q))
         go false e v q = none (λ s. absurd (eqb-false _ _ e s))
 
-  -- The reader of the record word, which a tab is to end.
-  module _ (P : WordRead → Type 0) where
-    pub by_word :
-        ((k : Kind) → stop_at text from ≡ tab → word_of (field_at text from) ≡ k → known k ≡ true
-        → P (record { kind = k; next = past_field text c }))
-        → ((stop_at text from ≡ tab → word_of (field_at text from) ≡ Unknown) → P (record { kind = Unknown; next = c }))
-        → P (word_read text c)
-    unfolding word_read
-    by_word taken none = go (eqb (stop_at text from) tab) refl (word_of (field_at text from)) refl
-      where
-        go :
-            (t : Bool) → eqb (stop_at text from) tab ≡ t → (k : Kind) → word_of (field_at text from) ≡ k
-            → P (word_found (cond t (word_of (field_at text from)) Unknown) (past_field text c) c)
-        go true e OfSegment q = rw q (taken OfSegment (eqb-true _ _ e) q refl)
-        go true e OfPartition q = rw q (taken OfPartition (eqb-true _ _ e) q refl)
-        go true e OfRight q = rw q (taken OfRight (eqb-true _ _ e) q refl)
-        go true e OfFlow q = rw q (taken OfFlow (eqb-true _ _ e) q refl)
-        go true e OfSlot q = rw q (taken OfSlot (eqb-true _ _ e) q refl)
-        go true e Unknown q = rw q (none (λ s. q))
-        go false e k q = none (λ s. absurd (eqb-false _ _ e s))
-
   -- The next field, read so, and what the line says by its value and the fields after it.
-  module _ (read : List ℕ → Number) (more : ℕ → List (List ℕ) → Line) where
+  module _ (read : List ℕ → Option ℕ) (more : ℕ → List (List ℕ) → Line) where
     abbrev next : List (List ℕ) → Line
     next fs = next_field read fs more
 
     -- Another field is to stand after it.
-    module _ {r : NumberRead} (is : r ≡ field_read read tab text c) where
-      pub inner_read_lem : {n : ℕ} → r.number ≡ Value n → rest_read next text c ≡ rest_read (more n) text r.next
+    module _ {r : Found ℕ} (is : r ≡ field_read read tab text c) where
+      pub inner_read_lem : {n : ℕ} → r.said ≡ Some n → rest_read next text c ≡ rest_read (more n) text r.next
       inner_read_lem {n} =
           rw is
-          (by_field read tab (λ r. r.number ≡ Value n → rest_read next text c ≡ rest_read (more n) text r.next)
+          (by_field read tab (λ r. r.said ≡ Some n → rest_read next text c ≡ rest_read (more n) text r.next)
           (λ m s q e. rest_tab next s (more n) (λ fs. rw q (let z : m ≡ n = cc in rw z)))
           (λ f e. absurd (no_value e)))
 
-      pub inner_none : ((n : ℕ) → more n [] ≡ Bad) → r.number ≡ Malformed → rest_read next text c ≡ nothing
+      pub inner_none : ((n : ℕ) → more n [] ≡ Bad) → r.said ≡ None → rest_read next text c ≡ nothing
       inner_none h =
           rw is
-          (by_field read tab (λ r. r.number ≡ Malformed → rest_read next text c ≡ nothing)
+          (by_field read tab (λ r. r.said ≡ None → rest_read next text c ≡ nothing)
           (λ m s q e. absurd (no_value (sym e)))
           (λ f e. by_stop text from _
           (λ s g. rest_tab next s (λ fs. Bad) (λ fs. rw (f s)) ∙ rest_bad text (past_field text c))
@@ -175,61 +143,45 @@ module _ (text : List ℕ) (c : Cursor) where
           (λ s g. rest_open next g)))
 
     -- It is to end its line.
-    module _ {r : NumberRead} (is : r ≡ field_read read line_end text c) where
+    module _ {r : Found ℕ} (is : r ≡ field_read read line_end text c) where
       pub last_read_lem :
-          {n : ℕ} → r.number ≡ Value n
+          {n : ℕ} → r.said ≡ Some n
           → rest_read next text c ≡ line_found (more n []) (record { at = r.next.at; line = c.line + 1 })
       last_read_lem {n} =
           rw is
           (by_field read line_end
-          (λ r. r.number ≡ Value n
+          (λ r. r.said ≡ Some n
           → rest_read next text c ≡ line_found (more n []) (record { at = r.next.at; line = c.line + 1 }))
           (λ m s q e. rest_end next s ∙ rw q (let z : m ≡ n = cc in rw z))
           (λ f e. absurd (no_value e)))
 
       pub last_none :
-          ((n : ℕ) (f : List ℕ) (fs : List (List ℕ)) → more n (f ∷ fs) ≡ Bad) → r.number ≡ Malformed
+          ((n : ℕ) (f : List ℕ) (fs : List (List ℕ)) → more n (f ∷ fs) ≡ Bad) → r.said ≡ None
           → rest_read next text c ≡ nothing
       last_none h =
           rw is
-          (by_field read line_end (λ r. r.number ≡ Malformed → rest_read next text c ≡ nothing)
+          (by_field read line_end (λ r. r.said ≡ None → rest_read next text c ≡ nothing)
           (λ m s q e. absurd (no_value (sym e)))
           (λ f e. by_stop text from _
           (λ s g. rest_more next s (λ f fs. given_bad (λ n. more n (f ∷ fs)) (λ n. h n f fs) (read (field_at text from))))
           (λ s g. rest_end next s ∙ rw (f s))
           (λ s g. rest_open next g)))
 
-    -- It is read neither so nor so.
-    pub either_none :
-        {r r' : NumberRead} → r ≡ field_read read tab text c → r' ≡ field_read read line_end text c
-        → r.number ≡ Malformed → r'.number ≡ Malformed → rest_read next text c ≡ nothing
-    either_none is is' =
-        rw (is, is')
-        (by_field read tab
-        (λ r. r.number ≡ Malformed → (field_read read line_end text c).number ≡ Malformed → rest_read next text c ≡ nothing)
-        (λ m s q e. absurd (no_value (sym e)))
-        (λ f e. by_field read line_end (λ r. r.number ≡ Malformed → rest_read next text c ≡ nothing)
-        (λ m s q e. absurd (no_value (sym e)))
-        (λ f' e'. by_stop text from _
-        (λ s g. rest_tab next s (λ fs. Bad) (λ fs. rw (f s)) ∙ rest_bad text (past_field text c))
-        (λ s g. rest_end next s ∙ rw (f' s))
-        (λ s g. rest_open next g))))
-
   -- The record word: a line says what its kind says of the fields after it.
   word_known :
-      {k : Kind} → word_of (field_at text from) ≡ k → stop_at text from ≡ tab
-      → rest_read line_of text c ≡ rest_read (line_of_kind number k) text (past_field text c)
+      {k : Option Kind} → word_of (field_at text from) ≡ k → stop_at text from ≡ tab
+      → rest_read line_of text c ≡ rest_read (line_of_word number k) text (past_field text c)
   unfolding line_by
-  word_known {k} q s = rest_tab line_of s (line_of_kind number k) (λ fs. rw q)
+  word_known {k} q s = rest_tab line_of s (line_of_word number k) (λ fs. rw q)
 
-  word_unknown : (stop_at text from ≡ tab → word_of (field_at text from) ≡ Unknown) → rest_read line_of text c ≡ nothing
+  word_unknown : (stop_at text from ≡ tab → word_of (field_at text from) ≡ None) → rest_read line_of text c ≡ nothing
   unfolding line_by
   word_unknown f =
       by_stop text from _ (λ s g. word_known (f s) s ∙ rest_bad text (past_field text c))
       (λ s g. rest_end line_of s ∙ rw (alone (word_of (field_at text from)))) (λ s g. rest_open line_of g)
 
-  pub word_says : {w : WordRead} → w ≡ word_read text c → rest_read line_of text c ≡ rest_read (line_of_kind number w.kind) text w.next
+  pub word_says : {w : Found Kind} → w ≡ word_read text c → rest_read line_of text c ≡ rest_read (line_of_word number w.said) text w.next
   word_says is =
       rw is
-      (by_word (λ w. rest_read line_of text c ≡ rest_read (line_of_kind number w.kind) text w.next)
-      (λ k s q d. word_known q s) (λ f. word_unknown f ∙ sym (rest_bad text c)))
+      (by_field word_of tab (λ w. rest_read line_of text c ≡ rest_read (line_of_word number w.said) text w.next)
+      (λ k s q. word_known q s) (λ f. word_unknown f ∙ sym (rest_bad text c)))

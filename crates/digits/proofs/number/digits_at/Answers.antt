@@ -1,20 +1,22 @@
 -- A byte that ends a field is no x, so decimal digits that it ends are no mark; otherwise the code asks what the
 -- definition asks.
-use Rattle.text.proofs.Laws.Scan.{ended_digits, open_digits, hex_digits}
+use Rattle.std.proofs.Common.{ap, ◌∙◌}
+use Rattle.std.specs.Prelude.{Some}
+use Rattle.text.proofs.Laws.Scan.{ended_digits, open_digits, hex_digits, hex_open}
 use Rattle.digits.proofs.number.digits_at.Goals as goal
 
 pub returns-then-d-end : goal.returns-then-d-end
 returns-then-d-end c =
-    let digits = c in
-    ended_digits _ _ _ digits.digits_from-d.ensures digits.requires.1 c.if-d-end.true
+    ap Some c.of_number.ensures ∙ ended_digits _ _ _ c.digits_from-d.ensures c.requires.1 c.if-d-end.true
 
 pub returns-then-not-d-from : goal.returns-then-not-d-from
-returns-then-not-d-from c =
-    let other = c in
-    open_digits _ _ _ other.digits_from-d.ensures other.if-d-end.false c.if-not-d-from.true
+returns-then-not-d-from c = open_digits _ _ _ c.digits_from-d.ensures c.if-d-end.false c.if-not-d-from.true
+
+pub returns-then-h-end : goal.returns-then-h-end
+returns-then-h-end c =
+    hex_open _ _ _ c.digits_from-d.ensures c.if-not-d-from.false c.digits_from-h.ensures c.if-h-end.true
 
 pub returns : goal.returns
 returns c =
-    let mark = c in
-    let digits = mark in
-    hex_digits _ _ _ digits.digits_from-d.ensures mark.if-not-d-from.false c.hex_from-h.ensures
+    ap Some c.of_number-2.ensures
+    ∙ hex_digits _ _ _ c.digits_from-d.ensures c.if-not-d-from.false c.digits_from-h.ensures c.if-h-end.false

@@ -1,41 +1,34 @@
--- The digits from the start are those passed and those from the place reached on: the loop's invariant.
-use Rattle.std.proofs.Common.{get_or, sym, ◌∙◌, mod-lt, arith, rules}
-use Rattle.text.specs.Number.{ten}
-use Rattle.text.proofs.Laws.Scan.{on_begin, on_past, on_other, on_more, digit_known, digit_other}
+-- One byte more at a time: the digits from the start are those passed and those from the place reached on.
+use Rattle.std.proofs.Common.{◌≡◌, ℕ, sym, ◌∙◌, ap, arith}
+use Rattle.text.proofs.Laws.Scan.{on_begin, on_past, on_other, on_more}
 use Rattle.digits.proofs.scan.digits_from.Goals as goal
 
 pub loop-i-init : goal.loop-i-init
-loop-i-init c = (on_begin ten _ _, omega arith)
+loop-i-init g c = (on_begin g.B.Base.form _ _, omega arith)
 
-pub overflow_cast-b : goal.overflow_cast-b
-overflow_cast-b c = omega (arith, c.type_inv.text c.loop-i.i)
-
-pub returns-then-d-gt9 : goal.returns-then-d-gt9
-returns-then-d-gt9 c =
-    let slice = c in
-    let h = slice.loop-i in
-    let l = slice.args.text.now in
+pub returns-then-BASE-d : goal.returns-then-BASE-d
+returns-then-BASE-d g c =
+    let base = g.met.B.Base.is_base ∙ sym c.BASE.ensures in
     sym
-    (h.invariant.0
-    ∙ on_other ten l h.value h.i h.invariant.1 slice.loop-i-test.true
-    (digit_other (get_or l h.i 0) (omega (arith, slice.type_inv.text h.i)) (search rules)
-    c.wrapping_sub_u32-d.ensures.value c.if-d-gt9.true))
-
-pub overflow_add-value : goal.overflow_add-value
-overflow_add-value c = omega (arith, c.loop-i.invariant.1)
+    (c.loop-i.invariant.0
+    ∙ on_other g.B.Base.form c.args.text.now c.loop-i.value c.loop-i.i c.worth-d.ensures base c.loop-i-test.true
+    (omega (arith, c.loop-i.auto.value-fits)) c.if-BASE-d.true)
 
 pub loop-i-preserved : goal.loop-i-preserved
-loop-i-preserved c =
-    let slice = c in
-    let h = slice.loop-i in
-    let l = slice.args.text.now in
-    let known =
-    digit_known (get_or l h.i 0) (omega (arith, slice.type_inv.text h.i)) (search rules)
-    c.wrapping_sub_u32-d.ensures.value c.if-d-gt9.false in (
-      h.invariant.0 ∙ rw (← known.1) (on_more ten l h.value h.i slice.loop-i-test.true known.0),
-      mod-lt _ (omega arith),
+loop-i-preserved g c =
+    let base = g.met.B.Base.is_base ∙ sym c.BASE-in-loop-i.ensures in
+    let bound = g.met.B.Base.is_base ∙ sym c.BASE.ensures in (
+      c.loop-i.invariant.0
+          ∙ on_more g.B.Base.form c.args.text.now c.loop-i.value c.loop-i.i c.worth-d.ensures base c.loop-i-test.true bound
+          c.if-BASE-d.false,
+      omega arith,
     )
 
 pub returns : goal.returns
-returns c =
-    let h = c.loop-i in sym (h.invariant.0 ∙ on_past ten _ h.value h.i h.invariant.1 c.loop-i-test.false)
+returns g c =
+    let l = c.args.text.now in
+    let end : c.loop-i.i ≡ c.max.result = omega (arith, c.loop-i.invariant.1, c.max.ensures) in
+    sym
+    (c.loop-i.invariant.0
+    ∙ on_past g.B.Base.form l c.loop-i.value c.loop-i.i (omega (arith, c.loop-i.auto.value-fits)) c.loop-i-test.false
+    ∙ ap (λ (k : ℕ). record { value = c.loop-i.value; end = k; stop = 0 }) end)

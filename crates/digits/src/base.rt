@@ -1,0 +1,76 @@
+// The two ways to write a number, as a loop over digits needs them.
+ghost use Rattle.std.specs.Prelude.{◌≡◌, ℕ, refl};
+ghost use Rattle.text.specs.Digits.{IsWorth};
+ghost use Rattle.text.specs.Number.{Notation, ten, sixteen};
+
+pub(crate) trait Base {
+    ghost form: { Notation };
+
+    ghost BASE: { ℕ };
+
+    const BASE: u32;
+
+    // How many digits there may be.
+    ghost MOST: { ℕ };
+
+    const MOST: usize;
+
+    // What a byte is worth as a digit, below the base just if it is one.
+    fn worth(b: u8) -> u32
+        ensures { IsWorth form b result };
+
+    ghost is_base: { form.base ≡ BASE };
+
+    ghost is_most: { form.most ≡ MOST };
+}
+
+pub(crate) struct Ten;
+
+impl Base for Ten {
+    ghost form = { ten };
+
+    ghost BASE = { 10 };
+
+    const BASE: u32 = 10;
+
+    ghost MOST = { 5 };
+
+    const MOST: usize = 5;
+
+    // The difference wraps around below "0", so that one test tells a digit.
+    fn worth(b: u8) -> u32 {
+        (b as u32).wrapping_sub(48)
+    }
+
+    ghost is_base = { refl };
+
+    ghost is_most = { refl };
+}
+
+pub(crate) struct Sixteen;
+
+impl Base for Sixteen {
+    ghost form = { sixteen };
+
+    ghost BASE = { 16 };
+
+    const BASE: u32 = 16;
+
+    ghost MOST = { 4 };
+
+    const MOST: usize = 4;
+
+    fn worth(b: u8) -> u32 {
+        if (b'0' <= b) & (b <= b'9') {
+            return (b - b'0') as u32;
+        }
+        if (b'a' <= b) & (b <= b'f') {
+            return 10 + (b - b'a') as u32;
+        }
+        16
+    }
+
+    ghost is_base = { refl };
+
+    ghost is_most = { refl };
+}
