@@ -1,3 +1,4 @@
-pub mod Parts
 pub mod Fits
 pub mod Ends
+pub mod Saves
+pub mod Stored

@@ -3,8 +3,10 @@
 ghost use Rattle.std.specs.Prelude.{◌+◌, ◌<◌, ◌≤◌, ◌≡◌, []};
 ghost use Rattle.policy.specs.Clash.{overlaps_earlier, shares_earlier, partition_clashes, clashes};
 ghost use Rattle.policy.specs.Limits.{single};
-ghost use Rattle.linerules.specs.Parts.{Barred, EndedBy, end_of, placed, right_on};
+ghost use Rattle.linerules.specs.Drafted.{view_in};
+ghost use Rattle.linerules.specs.Parts.{end_of, placed, right_on};
 
+use crate::draft::Draft;
 use bits::has_bit;
 use octets::entry_or;
 use policy::SAVE_SIZE;
@@ -23,14 +25,12 @@ pub(crate) fn overlaps_earlier<'a>(
         overlaps_earlier (placed segments 0 bases.now sizes.now [] []) base size }
 {
     let end = base + size;
-    let mut i: u8 = 0;
-    while i < segments {
+    for i in 0..segments {
         let from = entry_or(bases, i as usize, 0) as u32;
         let bytes = entry_or(sizes, i as usize, 0) as u32;
         if (base < from + bytes) & (from < end) {
             return true;
         }
-        i += 1;
     }
     false
 }
@@ -45,14 +45,12 @@ fn shares_earlier<'a>(
     ensures { result ≡
         shares_earlier (placed 0 partitions [] [] codes.now saves.now) code save }
 {
-    let mut i: u8 = 0;
-    while i < partitions {
+    for i in 0..partitions {
         let c = entry_or(codes, i as usize, 0) as u32;
         let s = entry_or(saves, i as usize, 0) as u32;
         if (save == s) | (save == c) | (code == s) {
             return true;
         }
-        i += 1;
     }
     false
 }
@@ -75,48 +73,29 @@ pub(crate) fn partition_clashes<'a>(
     (bytes != SAVE_SIZE) | (code == save) | shared
 }
 
-// For a line that rule 4 lets pass. The save segments so far are the bits of `barred`. The segments before have ended at
-// `ended`: one that begins there or later is compared with none of them.
-pub(crate) fn clashes<'a>(
-    segments: u8,
-    partitions: u8,
-    bases: &'a [u16],
-    sizes: &'a [u16],
-    codes: &'a [u8],
-    saves: &'a [u8],
-    barred: u32,
-    ended: u32,
-    line: Line,
-) -> bool
-    requires line_bound { end_of line ≤ single.memory }
-    requires line_bound_2 { right_on line < single.segments }
-    requires barred { Barred saves.now partitions barred }
-    requires ended_by { EndedBy bases.now sizes.now segments ended }
-    ensures { result ≡
-        clashes
-        (placed
-        segments
-        partitions
-        bases.now
-        sizes.now
-        codes.now
-        saves.now)
-        line }
-{
-    match line {
-        Line::Bad => false,
-        Line::Segment { base, size, .. } => {
-            if ended <= base {
-                false
-            } else {
-                overlaps_earlier(segments, bases, sizes, base, size)
+impl Draft {
+    // For a line that rule 4 lets pass. A segment that begins where those before have ended is compared with none of them.
+    pub(crate) fn clashes(&self, line: Line) -> bool
+        requires ends_in_memory { end_of line ≤ single.memory }
+        requires names_a_segment { right_on line < single.segments }
+        ensures { result ≡ clashes (view_in self.now) line }
+    {
+        let p = &self.policy;
+        match line {
+            Line::Bad => false,
+            Line::Segment { base, size, .. } => {
+                if self.ended <= base {
+                    false
+                } else {
+                    overlaps_earlier(p.segments, &p.base, &p.size, base, size)
+                }
             }
+            Line::Partition { code, save, .. } => {
+                partition_clashes(p.partitions, &p.size, &p.code, &p.save, code, save)
+            }
+            Line::Right { segment, .. } => has_bit(self.barred as u64, segment),
+            Line::Flow { from, to } => from == to,
+            Line::Slot { .. } => false,
         }
-        Line::Partition { code, save, .. } => partition_clashes(
-            partitions, sizes, codes, saves, code, save,
-        ),
-        Line::Right { segment, .. } => has_bit(barred as u64, segment),
-        Line::Flow { from, to } => from == to,
-        Line::Slot { .. } => false,
     }
 }

@@ -1,12 +1,14 @@
-// The rules for one line of a policy text, refusals 3, 4 and 5 of document 01, and 4 and 5 for an entry of a record.
+// The draft that a policy text's lines are added to, and the rules for one line: refusals 2 to 5 of document 01, and 4 and 5 for an entry of a
+// record.
 #![tactic(auto)]
 
+mod add;
 mod clash;
+mod draft;
 mod entry;
 mod line;
 mod order;
 mod range;
 
+pub use draft::Draft;
 pub use entry::{partition_passes, segment_passes};
-pub use line::line_refusal;
-pub use order::key_of;

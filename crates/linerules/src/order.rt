@@ -1,13 +1,14 @@
 // Refusal 3: "kind, id or pair out of order".
-ghost use Rattle.std.specs.Prelude.{◌≡◌, ◌&&◌, ◌||◌, not, eqb, ltb};
-ghost use Rattle.policy.specs.Order.{key_of, ascends, out_of_order};
-ghost use Rattle.linerules.specs.Parts.{counted};
+ghost use Rattle.std.specs.Prelude.{◌≡◌};
+ghost use Rattle.policy.specs.Order.{key_of, out_of_order};
+ghost use Rattle.linerules.specs.Drafted.{view_in};
 
+use crate::draft::Draft;
 use policy::Key;
 use text::Line;
 
 // What the next line is compared with.
-pub fn key_of(line: Line) -> Key
+pub(crate) fn key_of(line: Line) -> Key
     ensures { result ≡ key_of line }
 {
     match line {
@@ -48,32 +49,20 @@ pub fn key_of(line: Line) -> Key
     }
 }
 
-// Whether the line before is of a later kind, or of this one and its pair not below this one.
-fn falls(before: Key, kind: u8, first: u32, second: u32) -> bool
-    ensures { result ≡ ltb kind before.kind || eqb before.kind kind && not (ascends before first second) }
-{
-    if before.kind != kind {
-        return kind < before.kind;
-    }
-    if before.first != first {
-        return first < before.first;
-    }
-    second <= before.second
-}
-
-pub(crate) fn out_of_order(before: Key, segments: u8, partitions: u8, line: Line) -> bool
-    ensures { result ≡ out_of_order before (counted segments partitions 0) line }
-{
-    match line {
-        Line::Bad => 0 < before.kind,
-        Line::Segment { id, .. } => (0 < before.kind) | (id != segments as u32),
-        Line::Partition { id, .. } => (1 < before.kind) | (id != partitions as u32),
-        Line::Right {
-            partition,
-            segment,
-            ..
-        } => falls(before, 2, partition, segment),
-        Line::Flow { from, to } => falls(before, 3, from, to),
-        Line::Slot { .. } => 4 < before.kind,
+impl Draft {
+    pub(crate) fn out_of_order(&self, line: Line) -> bool
+        ensures { result ≡ out_of_order self.now.before (view_in self.now) line }
+    {
+        let key = key_of(line);
+        let before = self.before;
+        let falls = key.kind < before.kind;
+        match line {
+            Line::Bad => falls,
+            Line::Segment { id, .. } => falls | (id != self.policy.segments as u32),
+            Line::Partition { id, .. } => falls | (id != self.policy.partitions as u32),
+            Line::Right { .. } => key <= before,
+            Line::Flow { .. } => key <= before,
+            Line::Slot { .. } => falls,
+        }
     }
 }

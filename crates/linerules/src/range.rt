@@ -3,8 +3,10 @@
 ghost use Rattle.std.specs.Prelude.{◌≡◌};
 ghost use Rattle.policy.specs.Limits.{single};
 ghost use Rattle.policy.specs.Range.{segment_outside, partition_outside, slot_outside, out_of_range};
+ghost use Rattle.linerules.specs.Drafted.{view_in};
 ghost use Rattle.linerules.specs.Parts.{counted};
 
+use crate::draft::Draft;
 use policy::{LONGEST_SEGMENT, MEMORY, MOST_TICKS, PARTITIONS, SEGMENTS, SLOTS};
 use text::Line;
 
@@ -27,7 +29,7 @@ pub(crate) fn partition_outside(segments: u8, partitions: u8, code: u32, save: u
     full | no_code | no_save
 }
 
-pub(crate) fn slot_outside(partitions: u8, slots: u8, partition: u32, ticks: u32) -> bool
+fn slot_outside(partitions: u8, slots: u8, partition: u32, ticks: u32) -> bool
     ensures { result ≡ slot_outside single (counted 0 partitions slots) partition ticks }
 {
     let full = SLOTS <= slots;
@@ -37,19 +39,27 @@ pub(crate) fn slot_outside(partitions: u8, slots: u8, partition: u32, ticks: u32
     full | nobody | (short | long)
 }
 
-pub(crate) fn out_of_range(segments: u8, partitions: u8, slots: u8, line: Line) -> bool
-    ensures { result ≡ out_of_range single (counted segments partitions slots) line }
-{
-    match line {
-        Line::Bad => false,
-        Line::Segment { base, size, .. } => segment_outside(segments, base, size),
-        Line::Partition { code, save, .. } => partition_outside(segments, partitions, code, save),
-        Line::Right {
-            partition,
-            segment,
-            ..
-        } => (partitions as u32 <= partition) | (segments as u32 <= segment),
-        Line::Flow { from, to } => (segments as u32 <= from) | (segments as u32 <= to),
-        Line::Slot { partition, ticks } => slot_outside(partitions, slots, partition, ticks),
+impl Draft {
+    pub(crate) fn out_of_range(&self, line: Line) -> bool
+        ensures { result ≡ out_of_range single (view_in self.now) line }
+    {
+        let segments = self.policy.segments;
+        let partitions = self.policy.partitions;
+        match line {
+            Line::Bad => false,
+            Line::Segment { base, size, .. } => segment_outside(segments, base, size),
+            Line::Partition { code, save, .. } => {
+                partition_outside(segments, partitions, code, save)
+            }
+            Line::Right {
+                partition,
+                segment,
+                ..
+            } => (partitions as u32 <= partition) | (segments as u32 <= segment),
+            Line::Flow { from, to } => (segments as u32 <= from) | (segments as u32 <= to),
+            Line::Slot { partition, ticks } => {
+                slot_outside(partitions, self.policy.slots, partition, ticks)
+            }
+        }
     }
 }

@@ -51,8 +51,8 @@ impl Policy {
     }
 }
 
-// Where a line stands in the order of lines: its kind, and its id or pair.
-#[derive(Clone, Copy)]
+// Where a line stands in the order of lines: its kind, and its id or pair. Keys compare in this order.
+#[derive(Clone, Copy, PartialEq, Eq, PartialOrd, Ord)]
 pub struct Key {
     pub kind: u8,
     pub first: u32,

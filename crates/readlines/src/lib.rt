@@ -2,6 +2,5 @@
 #![tactic(auto)]
 
 mod lines;
-mod rights;
 
 pub use lines::read_lines;

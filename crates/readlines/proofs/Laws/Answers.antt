@@ -5,29 +5,28 @@ use mathlib.Core.List.{List}
 use lib.ListN.{length}
 use Rattle.std.specs.Prelude.{Ok, Err}
 use Rattle.text.specs.Lines.{lines_of}
-use Rattle.policy.specs.declared.record.Key.{Key}
 use Rattle.policy.specs.declared.record.Refusal.{Refusal}
 use Rattle.policy.specs.Limits.{single}
-use Rattle.policy.specs.Draft.{begun}
+use Rattle.policy.specs.Draft.{Draft, begun}
 use Rattle.policy.specs.Refusals.{Verdict}
-use Rattle.policy.specs.Tables.{Tables, zeros}
+use Rattle.policy.specs.Tables.{zeros}
 use Rattle.policy.specs.Read.{answer, whole_refusal, read_lines}
 use Rattle.wholerules.specs.Parts.{parts_of}
 use Rattle.wholerules.proofs.Laws.Parts.{parts_refusal}
 use Rattle.readlines.proofs.Laws.Run.{Reached, stops_end}
 
-module _ (text : List ℕ) (tables : Tables) (before : Key) (at n : ℕ) (r : Reached text tables before at n)
+module _ (text : List ℕ) (d : Draft) (at n : ℕ) (r : Reached text d at n)
     (end : length text ≤ at) (verdict : Verdict)
     (is-verdict :
     verdict
     ≡ whole_refusal
-    (parts_of tables.segments.count tables.partitions.count tables.slots.count tables.partitions.code
-    tables.partitions.save tables.rights.reads tables.rights.writes tables.flows.sources)) where
-  answered : answer single verdict tables ≡ read_lines single 1 (begun single) (lines_of text)
-  answered = rw (is-verdict, parts_refusal tables) (stops_end text tables before at n r end)
+    (parts_of d.tables.segments.count d.tables.partitions.count d.tables.slots.count d.tables.partitions.code
+    d.tables.partitions.save d.tables.rights.reads d.tables.rights.writes d.tables.flows.sources)) where
+  answered : answer single verdict d.tables ≡ read_lines single 1 (begun single) (lines_of text)
+  answered = rw (is-verdict, parts_refusal d.tables) (stops_end text d at n r end)
 
   pub end_accepted : verdict ≡ Ok tt →
-      record { refusal = Ok tt; tables = tables } ≡ read_lines single 1 (begun single) (lines_of text)
+      record { refusal = Ok tt; tables = d.tables } ≡ read_lines single 1 (begun single) (lines_of text)
   end_accepted h = rw h at answered
 
   pub end_refused : (refusal : Refusal) → verdict ≡ Err refusal →

@@ -1,5 +1,4 @@
 -- No partition passed shares, and the first that does is found.
-use Prim.Native.Nat.{◌-◌}
 use mathlib.Core.List.{[]}
 use Rattle.policy.specs.Clash.{shares}
 use Rattle.policy.proofs.Laws.Loops.{Searched}
@@ -8,6 +7,3 @@ use Rattle.linerules.proofs.clash.shares_earlier.Given as goal
 
 abbrev pub invariant-loop-i : goal.invariant-loop-i
 invariant-loop-i l = Searched l.partitions (shares (placed 0 0 [] [] l.codes l.saves) l.code l.save) l.i
-
-abbrev pub decreases-loop-i : goal.decreases-loop-i
-decreases-loop-i l = l.partitions - l.i

@@ -4,31 +4,30 @@ use mathlib.Core.Path.{sym, ◌∙◌}
 use native.Mathlib.Omega.{arith}
 use Rattle.policy.specs.Clash.{clashes}
 use Rattle.linerules.proofs.Laws.Ends.{none_past}
-use Rattle.linerules.proofs.clash.clashes.Goals as goal
+use Rattle.linerules.proofs.draft.Draft.clashes.Goals as goal
 
 pub overlaps_earlier-requires : goal.overlaps_earlier-requires
 overlaps_earlier-requires c =
-    omega (arith, rw c.in-Segment.is at c.requires.line_bound)
+    omega (arith, rw c.in-Segment.is at c.requires.ends_in_memory)
 
 pub has_bit-requires : goal.has_bit-requires
 has_bit-requires c =
-    omega (arith, rw c.in-Right.is at c.requires.line_bound_2)
+    omega (arith, rw c.in-Right.is at c.requires.names_a_segment)
 
 pub returns-in-Bad : goal.returns-in-Bad
 unfolding clashes
 returns-in-Bad c = rw c.in-Bad.is
 
-pub returns-then-ended-base : goal.returns-then-ended-base
+pub returns-then-self-base : goal.returns-then-self-base
 unfolding clashes
-returns-then-ended-base c =
-    let start = c in
-    let a = start.args in
+returns-then-self-base c =
+    let d = c.args.self.now in
     rw c.in-Segment.is
-    (sym (none_past a.bases.now a.sizes.now a.segments a.ended _ _ start.requires.ended_by c.if-ended-base.true))
+    (sym (none_past d.policy.base d.policy.size d.policy.segments d.ended _ _ d.segments_ended c.if-self-base.true))
 
-pub returns-else-ended-base : goal.returns-else-ended-base
+pub returns-else-self-base : goal.returns-else-self-base
 unfolding clashes
-returns-else-ended-base c = rw c.in-Segment.is c.overlaps_earlier.ensures
+returns-else-self-base c = rw c.in-Segment.is c.overlaps_earlier.ensures
 
 pub returns-in-Partition : goal.returns-in-Partition
 unfolding clashes
@@ -38,7 +37,7 @@ pub returns-in-Right : goal.returns-in-Right
 unfolding clashes
 returns-in-Right c =
     rw c.in-Right.is
-    (c.has_bit.ensures ∙ c.requires.barred _)
+    (c.has_bit.ensures ∙ c.args.self.now.saves_barred _)
 
 pub returns-in-Flow : goal.returns-in-Flow
 unfolding clashes

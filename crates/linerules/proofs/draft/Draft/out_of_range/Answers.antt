@@ -1,6 +1,6 @@
 -- Each kind of line has its own test, which is the definition at that kind.
 use Rattle.policy.specs.Range.{out_of_range}
-use Rattle.linerules.proofs.range.out_of_range.Goals as goal
+use Rattle.linerules.proofs.draft.Draft.out_of_range.Goals as goal
 
 pub returns-in-Bad : goal.returns-in-Bad
 unfolding out_of_range
