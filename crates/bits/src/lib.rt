@@ -7,5 +7,5 @@ mod set;
 mod wide;
 
 pub use bit::{has_bit, with_low_bit, worth};
-pub use set::{bit_at, bit_of, bits_below, mask_at, within};
+pub use set::{bit_at, bit_of, bits_below, within};
 pub use wide::widen;

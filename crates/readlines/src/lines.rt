@@ -25,16 +25,6 @@ pub fn read_lines(text: &[u8]) -> Result<Policy, Refusal>
         draft.add(line);
         c = read.next;
     }
-    let policy = &draft.policy;
-    record_refusal(
-        policy.segments,
-        policy.partitions,
-        policy.slots,
-        &policy.code,
-        &policy.save,
-        &policy.reads,
-        &policy.writes,
-        &policy.sources,
-    )?;
+    record_refusal(&draft.policy)?;
     Ok(draft.policy)
 }

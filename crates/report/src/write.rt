@@ -62,10 +62,8 @@ fn put_segments(policy: Policy, out: &mut [u8; 640], at: usize) -> usize
     requires { Countable (view_of (tables_of policy)) × (at ≤ 23) }
     ensures { Written out.old at (segment_rows (view_of (tables_of policy)) policy.segments) out.new result }
 {
-    let mut reads = [0u64; 8];
-    widen(&policy.reads, &mut reads);
-    let mut writes = [0u64; 8];
-    widen(&policy.writes, &mut writes);
+    let reads = widen(&policy.reads);
+    let writes = widen(&policy.writes);
     put_rows(
         &policy.save,
         &reads,

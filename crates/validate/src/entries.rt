@@ -1,10 +1,13 @@
 // Rules 4 and 5 for the segments and partitions of a record.
-ghost use Rattle.std.specs.Prelude.{◌+◌, ◌≡◌, []};
+ghost use Rattle.std.specs.Prelude.{◌+◌, ◌≡◌};
+ghost use Rattle.linerules.specs.Parts.{EndedBy};
 ghost use Rattle.policy.specs.Below.{each_below};
 ghost use Rattle.policy.specs.Limits.{single};
+ghost use Rattle.policy.specs.Record.{tables_of};
 ghost use Rattle.policy.specs.Sound.{good_segment, good_partition};
-ghost use Rattle.linerules.specs.Parts.{EndedBy, placed};
+ghost use Rattle.policy.specs.Tables.{view_of};
 
+use crate::counted::Counted;
 use linerules::{partition_passes, segment_passes};
 use octets::entry_or;
 
@@ -14,40 +17,36 @@ fn end_after<'a>(base: &'a [u16], size: &'a [u16], i: u8, end: u32) -> u32
     ensures { EndedBy base.now size.now (i + 1) result }
 {
     let next = entry_or(base, i as usize, 0) as u32 + entry_or(size, i as usize, 0) as u32;
-    if end < next { next } else { end }
+    end.max(next)
 }
 
-pub(crate) fn segments_good<'a>(base: &'a [u16], size: &'a [u16], segments: u8) -> bool
-    ensures { result ≡ each_below segments (good_segment single (placed 0 0 base.now size.now [] [])) }
-{
-    let mut end: u32 = 0;
-    let mut i = 0;
-    while i < segments {
-        if !segment_passes(base, size, i, end) {
-            return false;
+impl Counted<'_> {
+    pub(crate) fn segments_good(&self) -> bool
+        ensures { let v = view_of (tables_of self.now.policy.now) in
+            result ≡ each_below v.segments (good_segment single v) }
+    {
+        let base = &self.policy.base;
+        let size = &self.policy.size;
+        let mut end: u32 = 0;
+        for i in 0..self.policy.segments {
+            if !segment_passes(base, size, i, end) {
+                return false;
+            }
+            end = end_after(base, size, i, end);
         }
-        end = end_after(base, size, i, end);
-        i += 1;
+        true
     }
-    true
-}
 
-pub(crate) fn partitions_good<'a>(
-    size: &'a [u16],
-    code: &'a [u8],
-    save: &'a [u8],
-    segments: u8,
-    partitions: u8,
-) -> bool
-    ensures { result ≡ each_below partitions
-        (good_partition single (placed segments 0 [] size.now code.now save.now)) }
-{
-    let mut i = 0;
-    while i < partitions {
-        if !partition_passes(size, code, save, segments, i) {
-            return false;
+    pub(crate) fn partitions_good(&self) -> bool
+        ensures { let v = view_of (tables_of self.now.policy.now) in
+            result ≡ each_below v.partitions (good_partition single v) }
+    {
+        let policy = self.policy;
+        for i in 0..policy.partitions {
+            if !partition_passes(&policy.size, &policy.code, &policy.save, policy.segments, i) {
+                return false;
+            }
         }
-        i += 1;
+        true
     }
-    true
 }

@@ -3,6 +3,7 @@
 #![tactic(auto)]
 
 mod arrays;
+mod counted;
 mod entries;
 mod rights;
 mod test;

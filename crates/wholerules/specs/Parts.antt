@@ -2,6 +2,7 @@
 use Rattle.std.specs.Prelude.{ℕ, List, []}
 use Rattle.policy.specs.Tables.{view_of}
 use Rattle.policy.specs.View.{View}
+use Rattle.wholerules.specs.declared.parts.Parts.{Parts}
 
 abbrev pub parts_of : ℕ → ℕ → ℕ → List ℕ → List ℕ → List ℕ → List ℕ → List ℕ → View
 parts_of segments partitions slots code save reads writes sources =
@@ -14,3 +15,7 @@ parts_of segments partitions slots code save reads writes sources =
       flows = record { sources = sources };
       unused = 0;
     })
+
+abbrev pub view_of_parts : Parts → View
+view_of_parts p =
+    parts_of p.segments p.partitions p.slots p.code.now p.save.now p.reads.now p.writes.now p.sources.now

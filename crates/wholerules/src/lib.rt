@@ -4,6 +4,9 @@
 
 mod flows;
 mod masks;
+mod parts;
+mod reach;
 mod rules;
 
+pub use parts::Parts;
 pub use rules::{lent_refusal, record_refusal};

@@ -1,53 +1,40 @@
-// Rules 6 and 7, and the four in their order, over lent arrays.
-ghost use Rattle.std.specs.Prelude.{◌≤◌, ◌≡◌, [], length};
+// Rules 6 and 7, and the four in their order.
+ghost use Rattle.std.specs.Prelude.{◌≤◌, ◌≡◌};
+ghost use Rattle.bits.specs.Masks.{AllUnder};
 ghost use Rattle.policy.specs.Read.{whole_refusal};
+ghost use Rattle.policy.specs.Record.{tables_of};
+ghost use Rattle.policy.specs.Tables.{view_of};
 ghost use Rattle.policy.specs.Whole.{code_unreadable};
-ghost use Rattle.wholerules.specs.Masks.{HasPartitions};
-ghost use Rattle.wholerules.specs.Parts.{parts_of};
+ghost use Rattle.wholerules.specs.Parts.{view_of_parts};
 
-use crate::flows::look_at_flows;
+use crate::parts::Parts;
 use bits::{bit_at, widen};
-use policy::Refusal;
+use policy::{Policy, Refusal};
 
-fn code_unreadable<'a>(code: &'a [u8], reads: &'a [u64], partitions: u8) -> bool
-    requires { (partitions ≤ length code.now) × (partitions ≤ length reads.now) }
-    ensures { result ≡ code_unreadable (parts_of 0 partitions 0 code.now [] reads.now [] []) }
-{
-    let mut p = 0;
-    while p < partitions {
-        let s = code[p as usize];
-        if !bit_at(reads[p as usize], s) {
-            return true;
+impl Parts<'_> {
+    fn code_unreadable(&self) -> bool
+        ensures { result ≡ code_unreadable (view_of_parts self.now) }
+    {
+        for p in 0..self.partitions as usize {
+            if !bit_at(self.reads[p], self.code[p]) {
+                return true;
+            }
         }
-        p += 1;
+        false
     }
-    false
 }
 
 // The first of the rules that refuses.
-pub fn lent_refusal<'a>(
-    segments: u8,
-    partitions: u8,
-    slots: u8,
-    code: &'a [u8],
-    save: &'a [u8],
-    reads: &'a [u64],
-    writes: &'a [u64],
-    sources: &'a [u64],
-) -> Result<(), Refusal>
-    requires segments_bound { (segments ≤ 64) × (partitions ≤ 12) × (segments ≤ length sources.now) }
-    requires partitions_in_bounds { (partitions ≤ length code.now) × HasPartitions partitions save.now reads.now writes.now }
-    ensures { result ≡ whole_refusal
-        (parts_of segments partitions slots code.now save.now reads.now
-        writes.now sources.now) }
+pub fn lent_refusal(parts: &Parts) -> Result<(), Refusal>
+    ensures { result ≡ whole_refusal (view_of_parts parts.now) }
 {
-    if (segments == 0) | (partitions == 0) | (slots == 0) {
+    if (parts.segments == 0) | (parts.partitions == 0) | (parts.slots == 0) {
         return Err(Refusal::Incomplete);
     }
-    if code_unreadable(code, reads, partitions) {
+    if parts.code_unreadable() {
         return Err(Refusal::CodeUnreadable);
     }
-    let flows = look_at_flows(save, reads, writes, sources, segments, partitions);
+    let flows = parts.flows();
     if flows.missing {
         return Err(Refusal::FlowMissing);
     }
@@ -57,38 +44,25 @@ pub fn lent_refusal<'a>(
     Ok(())
 }
 
-// The same of the record's masks of 32 bits: as masks of 64 they are the same numbers.
-pub fn record_refusal<'a>(
-    segments: u8,
-    partitions: u8,
-    slots: u8,
-    code: &'a [u8],
-    save: &'a [u8],
-    reads: &'a [u32],
-    writes: &'a [u32],
-    sources: &'a [u32],
-) -> Result<(), Refusal>
-    requires segments_bound { (segments ≤ 32) × (partitions ≤ 8) }
-    requires code_len { (length code.now ≡ 8) × (length save.now ≡ 8) }
-    requires reads_len { (length reads.now ≡ 8) × (length writes.now ≡ 8) × (length sources.now ≡ 32) }
-    ensures { result ≡ whole_refusal
-        (parts_of segments partitions slots code.now save.now reads.now
-        writes.now sources.now) }
+// The same of a record, whose masks of 32 bits are the same numbers as masks of 64. In each of its two callers, since a
+// call costs as much as widening.
+#[inline(always)]
+pub fn record_refusal(policy: &Policy) -> Result<(), Refusal>
+    requires { (policy.now.segments ≤ 32) × (policy.now.partitions ≤ 8) }
+    ensures refusal { result ≡ whole_refusal (view_of (tables_of policy.now)) }
+    ensures narrow { AllUnder 32 policy.now.reads × AllUnder 32 policy.now.writes × AllUnder 32 policy.now.sources }
 {
-    let mut wide_reads: [u64; 8] = [0; 8];
-    widen(reads, &mut wide_reads);
-    let mut wide_writes: [u64; 8] = [0; 8];
-    widen(writes, &mut wide_writes);
-    let mut wide_sources: [u64; 32] = [0; 32];
-    widen(sources, &mut wide_sources);
-    lent_refusal(
-        segments,
-        partitions,
-        slots,
-        code,
-        save,
-        &wide_reads,
-        &wide_writes,
-        &wide_sources,
-    )
+    let reads = widen(&policy.reads);
+    let writes = widen(&policy.writes);
+    let sources = widen(&policy.sources);
+    lent_refusal(&Parts {
+        segments: policy.segments,
+        partitions: policy.partitions,
+        slots: policy.slots,
+        code: &policy.code,
+        save: &policy.save,
+        reads: &reads,
+        writes: &writes,
+        sources: &sources,
+    })
 }

@@ -9,21 +9,15 @@ use Rattle.policy.specs.declared.record.Refusal.{Refusal}
 use Rattle.policy.specs.Limits.{single}
 use Rattle.policy.specs.Draft.{Draft, begun}
 use Rattle.policy.specs.Refusals.{Verdict}
-use Rattle.policy.specs.Tables.{zeros}
+use Rattle.policy.specs.Tables.{view_of, zeros}
 use Rattle.policy.specs.Read.{answer, whole_refusal, read_lines}
-use Rattle.wholerules.specs.Parts.{parts_of}
-use Rattle.wholerules.proofs.Laws.Parts.{parts_refusal}
 use Rattle.readlines.proofs.Laws.Run.{Reached, stops_end}
 
 module _ (text : List ℕ) (d : Draft) (at n : ℕ) (r : Reached text d at n)
     (end : length text ≤ at) (verdict : Verdict)
-    (is-verdict :
-    verdict
-    ≡ whole_refusal
-    (parts_of d.tables.segments.count d.tables.partitions.count d.tables.slots.count d.tables.partitions.code
-    d.tables.partitions.save d.tables.rights.reads d.tables.rights.writes d.tables.flows.sources)) where
+    (is-verdict : verdict ≡ whole_refusal (view_of d.tables)) where
   answered : answer single verdict d.tables ≡ read_lines single 1 (begun single) (lines_of text)
-  answered = rw (is-verdict, parts_refusal d.tables) (stops_end text d at n r end)
+  answered = rw is-verdict (stops_end text d at n r end)
 
   pub end_accepted : verdict ≡ Ok tt →
       record { refusal = Ok tt; tables = d.tables } ≡ read_lines single 1 (begun single) (lines_of text)

@@ -11,7 +11,6 @@ use Rattle.policy.specs.Tables.{Tables, view_of}
 use Rattle.policy.specs.View.{View}
 use Rattle.policy.proofs.Laws.Bools.{and_both, same_truth}
 use Rattle.policy.proofs.Laws.Tests.{parts}
-use Rattle.validate.specs.Parts.{entries_hold}
 
 in_order : (base size owner ticks slots code save reads writes byte segments partitions rights flows : Bool) →
     base && size && (owner && ticks) && slots && (code && save && reads && writes) && byte && segments && partitions && rights && flows
@@ -64,7 +63,7 @@ module _ (t : Tables) where
 
   pub held_told : reads && writes && rights t.partitions.count ≡ rights 8 →
       base && size && (owner && ticks) && slots && (code && save && reads && writes) && eqb t.unused 0 && segments && partitions && rights t.partitions.count && flows
-      ≡ entries_hold t
+      ≡ unused_zero t && lines_hold single (view_of t)
   unfolding unused_zero lines_hold
   held_told e =
       rw (← e)

@@ -2,13 +2,13 @@
 -- definition's test of each pair.
 use Prim.Native.Nat.{ℕ, ◌+◌, ◌^◌, ◌<◌, ◌≤◌}
 use mathlib.Core.Path.{◌≡◌, refl, sym, ◌∙◌, ap}
-use mathlib.Core.Bool.{Bool, true, false, ◌&&◌, ◌||◌, not, or_assoc, or-true, true≢false}
+use mathlib.Core.Bool.{Bool, true, false, ◌&&◌, ◌||◌, not, or-true, true≢false}
 use mathlib.Core.List.{List, []}
 use native.Mathlib.Nat.{lt_of_le_of_lt}
 use native.Mathlib.Omega.{arith}
 use native.Mathlib.Decide.{dec_lt}
 use borrow.Author.Tests.{eq-eqb, eqb-true, le-leb, leb-false, lt-leb, ltb-true}
-use lib.Bits.{bit_and, bit_or, and_le_l, or_lt}
+use lib.Bits.{bit_and, bit_or, and_le_l}
 use lib.Dec.{eqb, leb, ltb}
 use lib.ListN.{drop, length, get_or}
 use lib.Pow.{pow_pos}
@@ -62,33 +62,29 @@ module _ (segments partitions : ℕ) (save reads writes : List ℕ) where
 
   -- Before the loop's turn at p: the save segments of the partitions before it, and the segments on which they have rights.
   pub record Gathered (p saves held : ℕ) : Type 0 where
-    pub among : p ≤ partitions
-    pub under : held < 2 ^ 32
     pub saved : (s : ℕ) → s < 32 → has saves s ≡ some_below p (save_of s)
     pub rights : (s : ℕ) → s < 32 → has held s ≡ some_below p (given s)
 
   pub gathered_none : Gathered 0 0 0
   unfolding some_below
-  gathered_none = record { among = omega arith; under = pow_pos 32; saved = λ s l. has_none s; rights = λ s l. has_none s }
+  gathered_none = record { saved = λ s l. has_none s; rights = λ s l. has_none s }
 
-  module _ (few : segments ≤ 32) (reads_under : AllUnder 32 reads) (writes_under : AllUnder 32 writes) where
-    pub gathered_more : (p saves held own : ℕ) → Gathered p saves held → p < partitions →
-        own ≡ mask_of 32 (λ u. eqb u (get_or save p 0)) →
-        Gathered (p + 1) (bit_or saves own) (bit_or (bit_or held (get_or reads p 0)) (get_or writes p 0))
-    gathered_more p saves held own g l o =
+  module _ (few : segments ≤ 32) where
+    pub gathered_more : (p saves held own : ℕ) → Gathered p saves held →
+        own ≡ mask_of 64 (λ u. eqb u (get_or save p 0)) →
+        Gathered (p + 1) (bit_or saves own) (bit_or held (bit_or (get_or reads p 0) (get_or writes p 0)))
+    gathered_more p saves held own g o =
         record {
-          among = omega arith;
-          under = or_lt 32 (bit_or held (get_or reads p 0)) (get_or writes p 0) (or_lt 32 held (get_or reads p 0) g.under (reads_under p)) (writes_under p);
           saved = λ s k. has-or saves own s ∙ some_next (save_of s) p (has saves s) (has own s) (g.saved s k) (own_at s k);
           rights =
               λ s k.
-              has-or (bit_or held (get_or reads p 0)) (get_or writes p 0) s
-              ∙ rw (has-or held (get_or reads p 0) s, or_assoc)
+              has-or held (bit_or (get_or reads p 0) (get_or writes p 0)) s
+              ∙ rw (has-or (get_or reads p 0) (get_or writes p 0) s)
               (some_next (given s) p (has held s) (given s p) (g.rights s k) refl);
         }
       where
         own_at : (s : ℕ) → s < 32 → has own s ≡ save_of s p
-        own_at s k = rw o (has_below (λ u. eqb u (get_or save p 0)) 32 s k)
+        own_at s k = rw o (has_below (λ u. eqb u (get_or save p 0)) 64 s (omega arith))
 
     abbrev line : ℕ → ℕ → Line
     line p s = Right p s (mode_in view p s)
@@ -102,7 +98,7 @@ module _ (segments partitions : ℕ) (save reads writes : List ℕ) where
     abbrev tests : ℕ → ℕ → Bool
     tests saves held = eqb (bit_and held there) held && eqb (bit_and held saves) 0
 
-    module _ (saves held : ℕ) (g : Gathered partitions saves held) where
+    module _ (saves held : ℕ) (under : held < 2 ^ 32) (g : Gathered partitions saves held) where
       tests_to : tests saves held ≡ true → pairs partitions ≡ true
       unfolding good_right out_of_range clashes
       tests_to h =
@@ -125,8 +121,8 @@ module _ (segments partitions : ℕ) (save reads writes : List ℕ) where
       unfolding good_right out_of_range clashes
       tests_from h =
           rw (
-            eq-eqb (bit_and held there) held (within_of 32 held there g.under stands),
-            eq-eqb (bit_and held saves) 0 (none_zero (bit_and held saves) (lt_of_le_of_lt (and_le_l held saves) g.under) free),
+            eq-eqb (bit_and held there) held (within_of 32 held there under stands),
+            eq-eqb (bit_and held saves) 0 (none_zero (bit_and held saves) (lt_of_le_of_lt (and_le_l held saves) under) free),
           )
         where
           passed : (s : ℕ) → s < 32 → has held s ≡ true → (P : Type 0) → ((p : ℕ) → p < partitions → passes single view (line p s) ≡ true → P) → P
@@ -155,44 +151,48 @@ module _ (segments partitions : ℕ) (save reads writes : List ℕ) where
       tests_told : tests saves held ≡ pairs partitions
       tests_told = same_truth (tests saves held) (pairs partitions) tests_to tests_from
 
-    pub gathered_told : (p saves held : ℕ) → Gathered p saves held → partitions ≤ p → tests saves held ≡ pairs partitions
-    gathered_told p saves held g l =
-        let q : p ≡ partitions = omega (arith, g.among) in
-        tests_told saves held (rw q at g)
+    pub gathered_told : (p saves held : ℕ) → held < 2 ^ 32 → Gathered p saves held → p ≡ partitions → tests saves held ≡ pairs partitions
+    gathered_told p saves held under g q = tests_told saves held under (rw q at g)
 
     -- A partition that is not there has no rights where its masks are 0.
-    module _ (room : partitions ≤ 8) (reads_long : length reads ≡ 8) (writes_long : length writes ≡ 8) where
-      abbrev within_count : Bool
-      within_count = all_zero (drop partitions reads) && all_zero (drop partitions writes) && pairs partitions
+    module _
+        (room : partitions ≤ 8)
+        (reads_under : AllUnder 32 reads)
+        (writes_under : AllUnder 32 writes)
+        (reads_long : length reads ≡ 8)
+        (writes_long : length writes ≡ 8)
+      where
+        abbrev within_count : Bool
+        within_count = all_zero (drop partitions reads) && all_zero (drop partitions writes) && pairs partitions
 
-      count_to : within_count ≡ true → pairs 8 ≡ true
-      unfolding good_right
-      count_to h = pairs_of (good_right single view) 8 32 (λ p s lp ls. at p s ls (dec_lt p partitions))
-        where
-          at : (p s : ℕ) → s < 32 → Dec (p < partitions) → good_right single view p s ≡ true
-          at p s ls (yes m) = pairs_at (good_right single view) partitions 32 (search parts) p s m ls
-          at p s ls (no m) =
-              rw (
-                zero_at reads partitions (search parts) p (omega arith),
-                zero_at writes partitions (search parts) p (omega arith),
-                has_none s,
-              )
+        count_to : within_count ≡ true → pairs 8 ≡ true
+        unfolding good_right
+        count_to h = pairs_of (good_right single view) 8 32 (λ p s lp ls. at p s ls (dec_lt p partitions))
+          where
+            at : (p s : ℕ) → s < 32 → Dec (p < partitions) → good_right single view p s ≡ true
+            at p s ls (yes m) = pairs_at (good_right single view) partitions 32 (search parts) p s m ls
+            at p s ls (no m) =
+                rw (
+                  zero_at reads partitions (search parts) p (omega arith),
+                  zero_at writes partitions (search parts) p (omega arith),
+                  has_none s,
+                )
 
-      count_from : pairs 8 ≡ true → within_count ≡ true
-      unfolding good_right out_of_range
-      count_from h =
-          rw (
-            zero_of reads partitions (λ p le l. none_zero (get_or reads p 0) (reads_under p) (λ s k e. stray p s le (omega arith) k (rw e))),
-            zero_of writes partitions (λ p le l. none_zero (get_or writes p 0) (writes_under p) (λ s k e. stray p s le (omega arith) k (rw (e, or-true)))),
-            pairs_of (good_right single view) partitions 32 (λ p s lp ls. pairs_at (good_right single view) 8 32 h p s (omega arith) ls),
-          )
-        where
-          stray : (p s : ℕ) → partitions ≤ p → p < 8 → s < 32 → given s p ≡ true → ⊥
-          stray p s le lp ls e =
-              let t = said (given s p) (passes single view (line p s)) (pairs_at (good_right single view) 8 32 h p s lp ls) e in
-              true≢false
-              (sym (le-leb partitions p le)
-              ∙ or_left (leb partitions p) (leb segments s) (passes_ranged single view (line p s) t))
+        count_from : pairs 8 ≡ true → within_count ≡ true
+        unfolding good_right out_of_range
+        count_from h =
+            rw (
+              zero_of reads partitions (λ p le l. none_zero (get_or reads p 0) (reads_under p) (λ s k e. stray p s le (omega arith) k (rw e))),
+              zero_of writes partitions (λ p le l. none_zero (get_or writes p 0) (writes_under p) (λ s k e. stray p s le (omega arith) k (rw (e, or-true)))),
+              pairs_of (good_right single view) partitions 32 (λ p s lp ls. pairs_at (good_right single view) 8 32 h p s (omega arith) ls),
+            )
+          where
+            stray : (p s : ℕ) → partitions ≤ p → p < 8 → s < 32 → given s p ≡ true → ⊥
+            stray p s le lp ls e =
+                let t = said (given s p) (passes single view (line p s)) (pairs_at (good_right single view) 8 32 h p s lp ls) e in
+                true≢false
+                (sym (le-leb partitions p le)
+                ∙ or_left (leb partitions p) (leb segments s) (passes_ranged single view (line p s) t))
 
-      pub count_told : within_count ≡ pairs 8
-      count_told = same_truth within_count (pairs 8) count_to count_from
+        pub count_told : within_count ≡ pairs 8
+        count_told = same_truth within_count (pairs 8) count_to count_from

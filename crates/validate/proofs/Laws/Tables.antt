@@ -1,7 +1,7 @@
 -- The tests of all entries of 32, place by place, are those past the counts and those of the slots.
 use Prim.Native.Nat.{ℕ, ◌+◌, ◌-◌, ◌<◌, ◌≤◌}
 use mathlib.Core.Path.{◌≡◌, refl, sym, ◌∙◌}
-use mathlib.Core.Bool.{Bool, true, cond, ◌&&◌, ◌||◌, not, and-true, and_assoc}
+use mathlib.Core.Bool.{Bool, true, cond, ◌&&◌, ◌||◌, not, and-true}
 use mathlib.Core.List.{List}
 use native.Mathlib.Decide.{dec_lt}
 use native.Mathlib.Numerals.{add-one}
@@ -44,20 +44,20 @@ module _ (base size owner ticks : List ℕ) (segments partitions slots : ℕ) wh
 
   -- Before the loop's turn at i: nothing strays where all holds at the places before it.
   abbrev pub Strays : ℕ → ℕ → Type 0
-  Strays i stray = (i ≤ 32) × (eqb stray 0 ≡ each_below i both_at)
+  Strays i stray = eqb stray 0 ≡ each_below i both_at
 
   pub strays_none : Strays 0 0
   unfolding each_below
-  strays_none = (omega arith, refl)
+  strays_none = refl
 
   module _ (few : segments ≤ 32) (room : slots ≤ 32) where
-    pub strays_more : (i stray past slot : ℕ) → Strays i stray → i < 32 →
+    pub strays_more : (i stray past slot : ℕ) → Strays i stray →
         eqb past 0 ≡ ltb (i + (32 - segments)) 32 || eqb (bit_or (get_or base i 0) (get_or size i 0)) 0 →
         eqb slot 0 ≡ cond (ltb (i + (32 - slots)) 32) (slot_holds i) (eqb (get_or owner i 0) 0 && eqb (get_or ticks i 0) 0) →
-        Strays (i + 1) (bit_or (bit_or stray past) slot)
+        Strays (i + 1) (bit_or stray (bit_or past slot))
     unfolding each_below
-    strays_more i stray past slot t l e f =
-        (omega arith, rw (add-one, or_none, or_none, t.1, e, f, or_none, counted_down segments i few, counted_down slots i room, and_assoc))
+    strays_more i stray past slot t e f =
+        rw (add-one, or_none, or_none, t, e, f, or_none, counted_down segments i few, counted_down slots i room)
 
     abbrev good : ℕ → Bool
     good = good_slot single (scheduled partitions owner ticks)
@@ -120,7 +120,6 @@ module _ (base size owner ticks : List ℕ) (segments partitions slots : ℕ) wh
                 zero_at ticks slots (search parts) k (omega arith),
               )
 
-      pub strays_done : (i stray : ℕ) → Strays i stray → 32 ≤ i → eqb stray 0 ≡ tables
-      strays_done i stray t l =
-          let q : i ≡ 32 = omega arith in
-          t.1 ∙ rw q (same_truth (each_below 32 both_at) tables tables_to tables_from)
+      pub strays_done : (i stray : ℕ) → Strays i stray → i ≡ 32 → eqb stray 0 ≡ tables
+      strays_done i stray t q =
+          t ∙ rw q (same_truth (each_below 32 both_at) tables tables_to tables_from)

@@ -42,7 +42,7 @@ zero_of (x ∷ xs) zero h =
 zero_of (x ∷ xs) (suc n) h = zero_of xs n (λ k le l. h (suc k) (omega arith) (omega arith))
 
 by_turn : (used w x y z p q r t : Bool) →
-    used && (w && p && (x && q) && (y && r) && (z && t)) ≡ used && w && x && y && z && (p && q && r && t)
+    used && (w && p && (x && q) && (y && r) && (z && t)) ≡ used && (w && x && y && z) && (p && q && r && t)
 by_turn used w x y z p q r t = same_truth _ _ (λ h. search (parts, and_both) depth 24) (λ h. search (parts, and_both) depth 24)
 
 module _ (a b c d : List ℕ) where
@@ -55,7 +55,7 @@ module _ (a b c d : List ℕ) where
 
   module _ (n from i used : ℕ) (z : ZeroTo from i used) (la : length a ≡ n) (lb : length b ≡ n) (lc : length c ≡ n) (ld : length d ≡ n) where
     pub zero_more : i < n →
-        ZeroTo from (i + 1) (bit_or (bit_or (bit_or (bit_or used (get_or a i 0)) (get_or b i 0)) (get_or c i 0)) (get_or d i 0))
+        ZeroTo from (i + 1) (bit_or used (bit_or (bit_or (bit_or (get_or a i 0) (get_or b i 0)) (get_or c i 0)) (get_or d i 0)))
     unfolding all_zero
     zero_more l =
         rw (

@@ -1,20 +1,16 @@
--- The loop copies number by number; the invariant: those before i are copied.
-use mathlib.Core.Path.{refl}
+-- The loop copies number by number; the invariant: those before i are copied, and have 32 bits as their type says.
+use native.Mathlib.Decide.{dec_lt}
 use native.Mathlib.Omega.{arith}
-use Rattle.bits.proofs.Laws.Copied.{copy_none, copy_more, copy_done, copy_under}
+use lib.ListN.{get_or-eq_default}
+use lib.Seq.{ext_get_or}
 use Rattle.bits.proofs.wide.widen.Goals as goal
 
-pub loop-i-init : goal.loop-i-init
-loop-i-init c = copy_none _ _ c.requires
+pub returns-clause-same : goal.returns-clause-same
+returns-clause-same g c = ext_get_or 0 _ _ c.loop-i.invariant.long (λ j k. c.loop-i.invariant.same j (omega arith))
 
-pub overflow_cast-to : goal.overflow_cast-to
-overflow_cast-to c = omega (arith, c.type_inv.from c.loop-i.i)
-
-pub bounds-to-i : goal.bounds-to-i
-bounds-to-i c = omega (arith, c.loop-i.invariant.long)
-
-pub loop-i-preserved : goal.loop-i-preserved
-loop-i-preserved c = copy_more _ _ _ c.loop-i.invariant _ c.loop-i-test.true refl (omega (arith, c.type_inv.from c.loop-i.i))
-
-pub returns : goal.returns
-returns c = (copy_done _ _ _ c.loop-i.invariant c.loop-i-test.false, copy_under _ _ _ c.loop-i.invariant c.loop-i-test.false)
+pub returns-clause-narrow : goal.returns-clause-narrow
+returns-clause-narrow g c i =
+    elim (dec_lt i c.loop-i.i) [
+      yes l ↦ c.loop-i.invariant.narrow i l
+      | no l ↦ rw (get_or-eq_default c.args.masks.now 0 {n = i} (omega arith)) (omega arith)
+    ]

@@ -1,7 +1,6 @@
 -- Before each line, what is left to read gives the answer of the whole text (Reached); the text grows shorter with each line. A line that no rule
 -- refuses has its place in the record.
 use native.Mathlib.Omega.{arith}
-use borrow.Author.Rules.{rules}
 use Rattle.std.proofs.lemmas.Result.{err_from_is_err_and}
 use Rattle.readlines.proofs.Laws.Answers.{end_accepted, end_refused}
 use Rattle.readlines.proofs.Laws.Run.{reached_first}
@@ -41,13 +40,13 @@ loop-c-preserved c =
 pub record_refusal-requires : goal.record_refusal-requires
 record_refusal-requires c =
     let counts = c.loop-c.invariant.kept.counts in
-    record { segments_bound = (counts.segments, counts.partitions); code_len = search rules; reads_len = search rules }
+    (counts.segments, counts.partitions)
 
 pub returns-in_err-record_refusal : goal.returns-in_err-record_refusal
 returns-in_err-record_refusal c =
     let p = err_from_is_err_and c.from_residual-in_err-record_refusal.result c.from_residual-in_err-record_refusal.ensures.1 in
     rw (p.1, p.2)
-    (end_refused _ _ _ _ c.loop-c.invariant c.loop-c-test.false _ c.record_refusal.ensures _ c.in_err-record_refusal.was)
+    (end_refused _ _ _ _ c.loop-c.invariant c.loop-c-test.false _ c.record_refusal.ensures.refusal _ c.in_err-record_refusal.was)
 
 pub returns : goal.returns
-returns c = end_accepted _ _ _ _ c.loop-c.invariant c.loop-c-test.false _ c.record_refusal.ensures c.in_ok-record_refusal.was
+returns c = end_accepted _ _ _ _ c.loop-c.invariant c.loop-c-test.false _ c.record_refusal.ensures.refusal c.in_ok-record_refusal.was

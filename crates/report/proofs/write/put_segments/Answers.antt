@@ -5,7 +5,4 @@ use Rattle.report.proofs.write.put_segments.Goals as goal
 
 pub returns : goal.returns
 returns c =
-    let w = c in
-    let r = w in
-    let policy = r.args.policy in
-    rw (r.widen.ensures.0, w.widen-2.ensures.0, rows_same (tables_of policy)) at c.put_rows.ensures
+    rw (c.widen-reads.ensures, c.widen-writes.ensures, rows_same (tables_of c.args.policy)) at c.put_rows.ensures
