@@ -6,6 +6,8 @@ pub struct Cursor {
 }
 
 // What a whole line says: document 01's five kinds, and the line that refusal 2 is for.
+// Bad is a case and no None: it is one of a text's lines, and the rules of a line in their order are said of it too (d).
+// The mode is the record's byte for the letters, 1, 2 or 3: document 01 names the byte, and must-fail mode_four edits it (a).
 #[derive(Clone, Copy, PartialEq, Eq, Debug)]
 pub enum Line {
     Bad,

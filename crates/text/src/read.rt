@@ -1,7 +1,8 @@
 // What the readers find, each with the place where it leaves off.
 use crate::line::{Cursor, Line};
 
-// What digits write, modulo 4,294,967,296, where they end, and the byte there, 0 where the text ends.
+// What digits write, modulo 4,294,967,296, where they end, and the byte there, 0 where the text ends: it ends no field, so one
+// comparison with the byte that is to end a field tells both, and an Option would tell no more (d).
 #[derive(Clone, Copy, PartialEq, Eq, Debug)]
 pub struct Digits {
     pub value: u32,

@@ -113,10 +113,6 @@ module _ (end : ℕ) (p : parts end ≡ true) where
         eq-eqb end end refl,
       )
 
--- All that is left of a text at a place.
-pub rest_is : (text : List ℕ) (at : ℕ) → slice_range text at (length text) ≡ drop at text
-rest_is text at = take_all (length text - at) (drop at text) (omega (arith, length-drop at text))
-
 -- The field at a place, by the word and the separator that stand there, or by their not standing there.
 module _ (text : List ℕ) (c : Cursor) where
   abbrev field : List ℕ
@@ -155,14 +151,20 @@ module _ (text : List ℕ) (c : Cursor) where
       abbrev past : Cursor
       past = record { at = c.at + length whole; line = c.line }
 
-      module _ {rest : List ℕ} (is : rest ≡ drop c.at text) where
-        field_told : starts_with eqb rest whole ≡ eqb stop end && same field word
-        field_told = rw (is, stop_is text c.at, field_is text c.at) (word_stands end p word (drop c.at text) plain)
+      -- What is left of the text, and whether it begins so.
+      module _
+          {rest : List ℕ} (is : rest ≡ slice_range text c.at (length text)) {begins : Bool}
+          (told : begins ≡ starts_with eqb rest whole) where
+        field_told : begins ≡ eqb stop end && same field word
+        field_told =
+            told
+            ∙ rw (is, take_all (length text - c.at) (drop c.at text) (omega (arith, length-drop c.at text)), stop_is text c.at, field_is text c.at)
+            (word_stands end p word (drop c.at text) plain)
 
-        pub field_other : starts_with eqb rest whole ≡ false → eqb stop end ≡ true → same field word ≡ false
+        pub field_other : begins ≡ false → eqb stop end ≡ true → same field word ≡ false
         field_other h e = sym (rw e at field_told) ∙ h
 
-        module _ (h : starts_with eqb rest whole ≡ true) where
+        module _ (h : begins ≡ true) where
           stop_here : eqb stop end ≡ true
           stop_here = and_left (eqb stop end) (same field word) (sym field_told ∙ h)
 
