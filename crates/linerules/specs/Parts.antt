@@ -1,43 +1,19 @@
--- The part of a record that the rules for a line read, so that the caller lends that part and no record is copied.
-use Rattle.std.specs.Prelude.{ℕ, ◌+◌, ◌<◌, ◌≤◌, ◌≡◌, false, List, [], get_or}
+-- What the tests of a line read of a record, and what a line has to meet so that it can be added.
+use Rattle.std.specs.Prelude.{ℕ, ◌+◌, ◌<◌, ◌≤◌, ◌≡◌, false, List, eqb, get_or}
 use Rattle.bits.specs.Masks.{has}
 use Rattle.text.specs.declared.line.Line.{Line}
 use Rattle.text.specs.declared.line.Line.TheVariants.{Bad, Segment, Partition, Right, Flow, Slot}
 use Rattle.policy.specs.Limits.{single}
+use Rattle.policy.specs.Below.{some_below}
 use Rattle.policy.specs.View.{View}
 use Rattle.policy.specs.Order.{id_skips}
 use Rattle.policy.specs.Range.{out_of_range}
-use Rattle.policy.specs.Clash.{is_save}
-use Rattle.policy.specs.Tables.{Tables, view_of}
+use Rattle.policy.specs.Tables.{zeros, view_of}
+use Rattle.policy.specs.Sound.{with_counts}
 
--- The record with these counts, segments, partitions and slots. Rights and flow lines are left out.
-abbrev pub part_tables : ℕ → ℕ → ℕ → List ℕ → List ℕ → List ℕ → List ℕ → List ℕ → List ℕ → Tables
-part_tables segments partitions slots base size code save owner ticks =
-    record {
-      segments = record { count = segments; base = base; size = size };
-      partitions = record { count = partitions; code = code; save = save };
-      slots = record { count = slots; owner = owner; ticks = ticks };
-      rights = record { reads = []; writes = [] };
-      flows = record { sources = [] };
-      unused = 0;
-    }
-
--- The view that the rules for a line have: counts, segments and partitions.
-abbrev pub part_view : ℕ → ℕ → ℕ → List ℕ → List ℕ → List ℕ → List ℕ → View
-part_view segments partitions slots base size code save =
-    view_of (part_tables segments partitions slots base size code save [] [])
-
--- The view of the counts alone, which is all that rules 3 and 4 read.
+-- The view of the counts alone, which is all that rule 4 reads.
 abbrev pub counted : ℕ → ℕ → ℕ → View
-counted segments partitions slots = part_view segments partitions slots [] [] [] []
-
--- The view of the segments and partitions, which is all that rule 5 reads.
-abbrev pub placed : ℕ → ℕ → List ℕ → List ℕ → List ℕ → List ℕ → View
-placed segments partitions base size code save = part_view segments partitions 0 base size code save
-
--- The view of the schedule.
-abbrev pub scheduled : ℕ → List ℕ → List ℕ → View
-scheduled partitions owner ticks = view_of (part_tables 0 partitions 0 [] [] [] [] owner ticks)
+counted segments partitions slots = with_counts (view_of (zeros single)) segments partitions slots
 
 -- The first n segments end at a place or before it.
 abbrev pub EndedBy : List ℕ → List ℕ → ℕ → ℕ → Type 0
@@ -45,7 +21,7 @@ EndedBy base size n end = (j : ℕ) → j < n → get_or base j 0 + get_or size 
 
 -- The bits of a mask are the save segments of the first n partitions.
 abbrev pub Barred : List ℕ → ℕ → ℕ → Type 0
-Barred save n mask = (s : ℕ) → has mask s ≡ is_save (placed 0 n [] [] [] save) s
+Barred save n mask = (s : ℕ) → has mask s ≡ some_below n (λ q. eqb s (get_or save q 0))
 
 -- Where the segment ends that a line gives.
 abbrev pub end_of : Line → ℕ

@@ -1,33 +1,30 @@
 // Refusal 5: "a segment overlaps an earlier one; a save segment's length isn't 44; a segment is save of two partitions,
 // or code of one and save of the same or another; a right names a save segment; a flow goes from a segment to itself".
-ghost use Rattle.std.specs.Prelude.{◌+◌, ◌<◌, ◌≤◌, ◌≡◌, []};
+ghost use Rattle.std.specs.Prelude.{◌+◌, ◌<◌, ◌≤◌, ◌≡◌};
 ghost use Rattle.policy.specs.Clash.{overlaps_earlier, shares_earlier, partition_clashes, clashes};
 ghost use Rattle.policy.specs.Limits.{single};
+ghost use Rattle.policy.specs.Record.{tables_of};
+ghost use Rattle.policy.specs.Sound.{first_partitions, first_segments};
+ghost use Rattle.policy.specs.Tables.{view_of};
 ghost use Rattle.linerules.specs.Drafted.{view_in};
-ghost use Rattle.linerules.specs.Parts.{end_of, placed, right_on};
+ghost use Rattle.linerules.specs.Parts.{end_of, right_on};
 
 use crate::draft::Draft;
 use bits::has_bit;
 use octets::entry_or;
-use policy::SAVE_SIZE;
+use policy::{Policy, SAVE_SIZE};
 use text::Line;
 
-// In u32, which the compiler tests many at once.
-pub(crate) fn overlaps_earlier<'a>(
-    segments: u8,
-    bases: &'a [u16],
-    sizes: &'a [u16],
-    base: u32,
-    size: u32,
-) -> bool
-    requires { base + size < 4294967296 }
-    ensures { result ≡
-        overlaps_earlier (placed segments 0 bases.now sizes.now [] []) base size }
+// Among the first so many segments. In u32, which the compiler tests many at once.
+pub(crate) fn overlaps_earlier(policy: &Policy, segments: u8, base: u32, size: u32) -> bool
+    requires few { segments ≤ single.segments }
+    requires ends { base + size < 4294967296 }
+    ensures { result ≡ overlaps_earlier (first_segments (view_of (tables_of policy.now)) segments) base size }
 {
     let end = base + size;
-    for i in 0..segments {
-        let from = entry_or(bases, i as usize, 0) as u32;
-        let bytes = entry_or(sizes, i as usize, 0) as u32;
+    for i in 0..segments as usize {
+        let from = policy.base[i] as u32;
+        let bytes = policy.size[i] as u32;
         if (base < from + bytes) & (from < end) {
             return true;
         }
@@ -35,19 +32,13 @@ pub(crate) fn overlaps_earlier<'a>(
     false
 }
 
-fn shares_earlier<'a>(
-    partitions: u8,
-    codes: &'a [u8],
-    saves: &'a [u8],
-    code: u32,
-    save: u32,
-) -> bool
-    ensures { result ≡
-        shares_earlier (placed 0 partitions [] [] codes.now saves.now) code save }
+fn shares_earlier(policy: &Policy, partitions: u8, code: u32, save: u32) -> bool
+    requires { partitions ≤ single.partitions }
+    ensures { result ≡ shares_earlier (first_partitions (view_of (tables_of policy.now)) partitions) code save }
 {
-    for i in 0..partitions {
-        let c = entry_or(codes, i as usize, 0) as u32;
-        let s = entry_or(saves, i as usize, 0) as u32;
+    for i in 0..partitions as usize {
+        let c = policy.code[i] as u32;
+        let s = policy.save[i] as u32;
         if (save == s) | (save == c) | (code == s) {
             return true;
         }
@@ -55,21 +46,13 @@ fn shares_earlier<'a>(
     false
 }
 
-pub(crate) fn partition_clashes<'a>(
-    partitions: u8,
-    sizes: &'a [u16],
-    codes: &'a [u8],
-    saves: &'a [u8],
-    code: u32,
-    save: u32,
-) -> bool
-    ensures { result ≡
-        partition_clashes
-        (placed 0 partitions [] sizes.now codes.now saves.now)
-        code save }
+// With the first so many partitions.
+pub(crate) fn partition_clashes(policy: &Policy, partitions: u8, code: u32, save: u32) -> bool
+    requires { partitions ≤ single.partitions }
+    ensures { result ≡ partition_clashes (first_partitions (view_of (tables_of policy.now)) partitions) code save }
 {
-    let bytes = entry_or(sizes, save as usize, 0) as usize;
-    let shared = shares_earlier(partitions, codes, saves, code, save);
+    let bytes = entry_or(&policy.size, save as usize, 0) as usize;
+    let shared = shares_earlier(policy, partitions, code, save);
     (bytes != SAVE_SIZE) | (code == save) | shared
 }
 
@@ -87,12 +70,10 @@ impl Draft {
                 if self.ended <= base {
                     false
                 } else {
-                    overlaps_earlier(p.segments, &p.base, &p.size, base, size)
+                    overlaps_earlier(p, p.segments, base, size)
                 }
             }
-            Line::Partition { code, save, .. } => {
-                partition_clashes(p.partitions, &p.size, &p.code, &p.save, code, save)
-            }
+            Line::Partition { code, save, .. } => { partition_clashes(p, p.partitions, code, save) }
             Line::Right { segment, .. } => has_bit(self.barred as u64, segment),
             Line::Flow { from, to } => from == to,
             Line::Slot { .. } => false,

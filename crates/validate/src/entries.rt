@@ -29,7 +29,7 @@ impl Counted<'_> {
         let size = &self.policy.size;
         let mut end: u32 = 0;
         for i in 0..self.policy.segments {
-            if !segment_passes(base, size, i, end) {
+            if !segment_passes(self.policy, i, end) {
                 return false;
             }
             end = end_after(base, size, i, end);
@@ -41,9 +41,8 @@ impl Counted<'_> {
         ensures { let v = view_of (tables_of self.now.policy.now) in
             result ≡ each_below v.partitions (good_partition single v) }
     {
-        let policy = self.policy;
-        for i in 0..policy.partitions {
-            if !partition_passes(&policy.size, &policy.code, &policy.save, policy.segments, i) {
+        for i in 0..self.policy.partitions {
+            if !partition_passes(self.policy, i) {
                 return false;
             }
         }

@@ -2,7 +2,7 @@
 use Prim.Native.Nat.{ℕ, ◌+◌, ◌-◌, ◌<◌, ◌≤◌}
 use mathlib.Core.Path.{◌≡◌, refl, sym, ◌∙◌}
 use mathlib.Core.Bool.{Bool, true, cond, ◌&&◌, ◌||◌, not, and-true}
-use mathlib.Core.List.{List}
+use mathlib.Core.List.{List, []}
 use native.Mathlib.Decide.{dec_lt}
 use native.Mathlib.Numerals.{add-one}
 use native.Mathlib.Omega.{arith}
@@ -10,12 +10,14 @@ use borrow.Author.Tests.{eqb-true, le-ltb, lt-leb, lt-ltb, ltb-true}
 use lib.Bits.{bit_or}
 use lib.Dec.{eqb, leb, ltb}
 use lib.ListN.{length, get_or, drop}
-use Rattle.linerules.specs.Parts.{scheduled}
 use Rattle.policy.specs.Below.{each_below}
 use Rattle.policy.specs.Clash.{clashes}
+use Rattle.policy.specs.Draft.{with_partitions, with_slots}
 use Rattle.policy.specs.Limits.{single, most_ticks}
 use Rattle.policy.specs.Range.{out_of_range, outside}
 use Rattle.policy.specs.Sound.{all_zero, good_slot}
+use Rattle.policy.specs.Tables.{zeros, view_of}
+use Rattle.policy.specs.View.{View}
 use Rattle.policy.proofs.Laws.Below.{each_at, each_of}
 use Rattle.policy.proofs.Laws.Bools.{and_both, and_left, and_right, same_truth}
 use Rattle.policy.proofs.Laws.Tests.{parts}
@@ -59,8 +61,14 @@ module _ (base size owner ticks : List ℕ) (segments partitions slots : ℕ) wh
     strays_more i stray past slot t e f =
         rw (add-one, or_none, or_none, t, e, f, or_none, counted_down segments i few, counted_down slots i room)
 
+    -- The view of the schedule alone.
+    abbrev scheduled : View
+    scheduled =
+        let t = with_partitions (zeros single) (record { count = partitions; code = []; save = [] }) in
+        view_of (with_slots t (record { count = 0; owner = owner; ticks = ticks }))
+
     abbrev good : ℕ → Bool
-    good = good_slot single (scheduled partitions owner ticks)
+    good = good_slot single scheduled
 
     -- Rule 5 asks nothing of a slot.
     slot_inside : (i : ℕ) → i < 32 → good i ≡ slot_holds i

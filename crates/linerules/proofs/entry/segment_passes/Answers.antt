@@ -1,5 +1,6 @@
 -- Neither rule applies to the line that would put the segment there.
 use mathlib.Core.Path.{sym, ◌∙◌}
+use Rattle.policy.specs.Record.{tables_of}
 use Rattle.policy.specs.Range.{out_of_range}
 use Rattle.policy.specs.Clash.{clashes}
 use Rattle.policy.specs.Sound.{good_segment}
@@ -24,7 +25,7 @@ returns-then-end-base c =
       ← c.entry_or-base.ensures,
       ← c.entry_or-size.ensures,
       sym c.segment_outside.ensures ∙ c.if-segment_outside.false,
-      none_past a.bases.now a.sizes.now a.i a.end _ _ start.requires c.if-end-base.true,
+      none_past (tables_of a.policy.now) a.i a.end _ _ start.requires c.if-end-base.true,
     )
 
 pub returns : goal.returns

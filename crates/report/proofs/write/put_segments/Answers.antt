@@ -5,4 +5,4 @@ use Rattle.report.proofs.write.put_segments.Goals as goal
 
 pub returns : goal.returns
 returns c =
-    rw (c.widen-reads.ensures, c.widen-writes.ensures, rows_same (tables_of c.args.policy)) at c.put_rows.ensures
+    rw (c.widen-reads.ensures.same, c.widen-writes.ensures.same, rows_same (tables_of c.args.policy)) at c.put_rows.ensures
