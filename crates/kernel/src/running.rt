@@ -17,8 +17,8 @@ use policy::Policy;
 use schedule::{is_place, next_turn, place_with, turn_at};
 
 fn run_ticks(policy: Policy, memory: &mut [u8], place: Place, n: u32) -> Place
-    requires { (sound_of single (tables_of policy) ≡ true)
-        × Stands single (view_of (tables_of policy)) (state_of memory.old place) }
+    requires sound { sound_of single (tables_of policy) ≡ true }
+    requires stands { Stands single (view_of (tables_of policy)) (state_of memory.old place) }
     ensures { state_of memory.new result
         ≡ after_ticks (view_of (tables_of policy)) n (state_of memory.old place) }
 {
@@ -33,7 +33,7 @@ fn run_ticks(policy: Policy, memory: &mut [u8], place: Place, n: u32) -> Place
         // Asked before all else is looked up: an idle partition needs none of it.
         if is_able(memory, usize::from(policy.base[save])) {
             let count = place.count.wrapping_add(n - left);
-            stretch(memory, &policy, owner, count, left.min(room));
+            stretch(memory, &policy, owner, count, room.min(left));
         }
         // A branch, and no choice between two places: the next slot does not wait for the ticks of this one.
         if left < room {

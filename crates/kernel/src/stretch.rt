@@ -44,10 +44,12 @@ fn steps(seat: &Seat<'_>, memory: &mut [u8], end: u32, first: u16, n: u32) -> u3
     ensures ticked { (count : ℕ) → count < counts → end ≡ count_after n count → memory.new
         ≡ ticked_for (seat_at seat.now) seat.now.from seat.now.start seat.now.room count (n - result) memory.old }
 {
+    // The last counter with an instruction, so that no turn adds to the counter before it is tested.
+    let last = seat.room - 4;
     let mut pc = first;
     let mut left = n;
     while 0 < left {
-        if seat.room < (pc as usize) + 4 {
+        if last < pc as usize {
             return left;
         }
         // From the ticks left, so that the loop carries one number and not two. A slot has at most 1,000, so the remainder

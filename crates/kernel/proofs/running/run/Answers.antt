@@ -36,13 +36,13 @@ returns-then-n-gt-MOST_TICKS_OF_RUN c =
 
 pub run_ticks-requires : goal.run_ticks-requires
 unfolding is_place
-run_ticks-requires c = (
-  start_sound (under_policy c.args.policy.now) c.args.memory.now (sym c.in_ok-tested.ensures),
-  record {
+run_ticks-requires c = record {
+  sound = start_sound (under_policy c.args.policy.now) c.args.memory.now (sym c.in_ok-tested.ensures);
+  stands = record {
     whole = start_whole (under_policy c.args.policy.now) c.args.memory.now (sym c.in_ok-tested.ensures);
     placed = sym c.is_place.ensures ∙ c.if-not-is_place.false;
-  },
-)
+  };
+}
 
 pub returns : goal.returns
 unfolding is_place after_run run_answer

@@ -20,11 +20,11 @@ loop-left-init c =
       counter_fits = search (rules, c.ranges);
     }
 
-pub returns-then-seat-pc-clause-fewer : goal.returns-then-seat-pc-clause-fewer
-returns-then-seat-pc-clause-fewer c = fewer _ _ _ _ c.if-seat-pc.true c.loop-left.invariant.some_done
+pub returns-then-last-pc-clause-fewer : goal.returns-then-last-pc-clause-fewer
+returns-then-last-pc-clause-fewer c = fewer _ _ _ _ (omega (arith, c.if-last-pc.true, c.requires.counter_in_code.1)) c.loop-left.invariant.some_done
 
-pub returns-then-seat-pc-clause-ticked : goal.returns-then-seat-pc-clause-ticked
-returns-then-seat-pc-clause-ticked c = λ count h e. (c.loop-left.invariant.done count h e).memory
+pub returns-then-last-pc-clause-ticked : goal.returns-then-last-pc-clause-ticked
+returns-then-last-pc-clause-ticked c = λ count h e. (c.loop-left.invariant.done count h e).memory
 
 pub returns-then-not-goes_on-clause-ticked : goal.returns-then-not-goes_on-clause-ticked
 returns-then-not-goes_on-clause-ticked c =
