@@ -1,5 +1,5 @@
 -- The answers as C has them: numbers, with the record, the place, the masks or the sheet beside them.
-use Rattle.std.specs.Prelude.{◌≡◌, cond, Result}
+use Rattle.std.specs.Prelude.{ℕ, ◌≡◌, cond, replicate, Result}
 use Rattle.std.specs.Result.{result_unwrap_or}
 use Rattle.policy.specs.Refusals.{number_of, line_number_of}
 use Rattle.policy.specs.Asked.{asked_number}
@@ -8,9 +8,10 @@ use Rattle.policy.specs.Record.{tables_of}
 use Rattle.machine.specs.declared.Place.{Place}
 use Rattle.calls.specs.declared.Refused.{Refused}
 use Rattle.calls.specs.Outcomes.{outcome_number}
-use Rattle.reach.specs.declared.Report.{Report}
-use Rattle.reach.specs.declared.Answer.{Answer as Question}
+use Rattle.calls.specs.Under.{Under}
+use Rattle.reach.specs.Answers.{reach_answer, can_reach_answer, rows_shown, yes_shown}
 use Rattle.sheet.specs.declared.Sheet.{Sheet}
+use Rattle.sheet.specs.Answer.{sheet_answer}
 use Rattle.boundary.specs.declared.ReachResult.{ReachResult}
 use Rattle.boundary.specs.declared.ReadResult.{ReadResult}
 use Rattle.boundary.specs.declared.QuestionResult.{QuestionResult}
@@ -27,11 +28,23 @@ pub record Tells (r : ReadResult) (a : Answer) : Type 0 where
 abbrev pub run_result : Place → Result Place Refused → RunResult
 run_result kept answer = record { number = outcome_number answer; place = result_unwrap_or answer kept }
 
-abbrev pub reach_result : Report → ReachResult
-reach_result report = record { number = asked_number report.asked; sources = report.rows }
+-- "Refused: .. report empty, answer no."
+abbrev pub reach_result : Under → ReachResult
+reach_result u = record { number = asked_number (reach_answer u); sources = rows_shown u }
 
-abbrev pub question_result : Question → QuestionResult
-question_result answer = record { number = asked_number answer.asked; yes = cond answer.yes 1 0 }
+abbrev pub question_result : Under → ℕ → ℕ → QuestionResult
+question_result u from to =
+    record { number = asked_number (can_reach_answer u from to); yes = cond (yes_shown u from to) 1 0 }
 
-abbrev pub sheet_result : Sheet → SheetResult
-sheet_result sheet = record { number = asked_number sheet.asked; ticks = sheet.ticks; silence = sheet.silence }
+-- "Refused: 10, all zeros."
+abbrev pub sheet_shown : Under → Sheet
+sheet_shown u =
+    result_unwrap_or (sheet_answer u)
+    (record {
+      ticks = replicate u.limits.partitions 0;
+      silence = replicate u.limits.partitions 0;
+    })
+
+abbrev pub sheet_result : Under → SheetResult
+sheet_result u =
+    record { number = asked_number (sheet_answer u); ticks = (sheet_shown u).ticks; silence = (sheet_shown u).silence }

@@ -12,8 +12,6 @@ ghost use Rattle.calls.specs.Outcomes.{outcome_number};
 ghost use Rattle.calls.specs.Start.{start_place, start_answer, after_start};
 ghost use Rattle.calls.specs.Pend.{pend_outcome, after_pend};
 ghost use Rattle.calls.specs.Run.{state_of, run_answer, after_run};
-ghost use Rattle.reach.specs.Answers.{reach_answer, can_reach_answer};
-ghost use Rattle.sheet.specs.Answer.{sheet_answer};
 ghost use Rattle.boundary.specs.Results.{Tells, run_result, reach_result, question_result, sheet_result};
 ghost use Rattle.boundary.specs.Version.{version};
 
@@ -93,7 +91,7 @@ pub extern "C" fn sk_read(text: &[u8]) -> ReadResult
 pub extern "C" fn sk_sound(policy: Policy) -> u32
     ensures { result ≡ cond (sound_of single (tables_of policy)) 1 0 }
 {
-    if sound::sound(&policy) { 1 } else { 0 }
+    u32::from(sound::sound(&policy))
 }
 
 // With the place that a refused Start or Run returns.
@@ -138,40 +136,51 @@ pub extern "C" fn sk_run(policy: Policy, memory: &mut [u8], place: Place, ticks:
 
 #[unsafe(no_mangle)]
 pub extern "C" fn sk_reach(policy: Policy) -> ReachResult
-    ensures { result ≡ reach_result (reach_answer (under_policy policy)) }
+    ensures { result ≡ reach_result (under_policy policy) }
 {
-    let report = reach::reach(policy);
-    let asked = report.asked;
-    let sources = report.rows;
-    ReachResult {
-        number: reach::asked_number(asked),
-        sources,
+    match reach::reach(&policy) {
+        Ok(sources) => ReachResult { number: 0, sources },
+        Err(why) => ReachResult {
+            number: u32::from(why),
+            sources: [0; 32],
+        },
     }
 }
 
 #[unsafe(no_mangle)]
 pub extern "C" fn sk_can_reach(policy: Policy, from: u32, to: u32) -> QuestionResult
-    ensures { result ≡ question_result (can_reach_answer (under_policy policy) from to) }
+    ensures { result ≡ question_result (under_policy policy) from to }
 {
-    let answer = reach::can_reach(policy, from, to);
-    let asked = answer.asked;
-    QuestionResult {
-        number: reach::asked_number(asked),
-        yes: if answer.yes { 1 } else { 0 },
+    match reach::can_reach(&policy, from, to) {
+        Ok(yes) => QuestionResult {
+            number: 0,
+            yes: u32::from(yes),
+        },
+        Err(why) => QuestionResult {
+            number: u32::from(why),
+            yes: 0,
+        },
     }
 }
 
 #[unsafe(no_mangle)]
 pub extern "C" fn sk_sheet(policy: Policy) -> SheetResult
-    ensures { result ≡ sheet_result (sheet_answer (under_policy policy)) }
+    ensures { result ≡ sheet_result (under_policy policy) }
 {
-    let sheet = sheet::sheet_of(policy);
-    let asked = sheet.asked;
-    let ticks = sheet.ticks;
-    let silence = sheet.silence;
-    SheetResult {
-        number: reach::asked_number(asked),
-        ticks,
-        silence,
+    match sheet::sheet_of(&policy) {
+        Ok(sheet) => {
+            let ticks = sheet.ticks;
+            let silence = sheet.silence;
+            SheetResult {
+                number: 0,
+                ticks,
+                silence,
+            }
+        }
+        Err(why) => SheetResult {
+            number: u32::from(why),
+            ticks: [0; 8],
+            silence: [0; 8],
+        },
     }
 }

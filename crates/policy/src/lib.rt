@@ -8,4 +8,4 @@ mod record;
 pub use limits::{
     LONGEST_SEGMENT, MEMORY, MOST_TICKS, PARTITIONS, SAVE_SIZE, SEGMENTS, SLOTS, TEXT,
 };
-pub use record::{Asked, Key, Policy, Refusal};
+pub use record::{Key, NoAnswer, Policy, Refusal};

@@ -107,10 +107,23 @@ impl Refusal {
     }
 }
 
-// What a question about a policy answers: that it was answered, or why it was refused.
+// Why a question about a policy is not answered.
 #[derive(Clone, Copy)]
-pub enum Asked {
-    Answered,
+pub enum NoAnswer {
     Unsound,
     NoSegment,
+}
+
+impl From<NoAnswer> for u32 {
+    ghost use Rattle.std.specs.Prelude.{◌≡◌};
+    ghost use Rattle.policy.specs.Asked.{no_answer_number};
+
+    ghost from_gives = { λ why number. number ≡ no_answer_number why };
+
+    fn from(why: NoAnswer) -> u32 {
+        match why {
+            NoAnswer::Unsound => 10,
+            NoAnswer::NoSegment => 15,
+        }
+    }
 }

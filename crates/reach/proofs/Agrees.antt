@@ -8,11 +8,10 @@ use native.Mathlib.Decide.{dec_lt}
 use borrow.Author.Tests.{lt-ltb, le-ltb, le-leb, leb-true, leb-false}
 use lib.Dec.{ltb}
 use lib.ListN.{get_or, replicate, get_or-eq_default}
+use Rattle.std.specs.Prelude.{Ok}
 use Rattle.bits.specs.Masks.{has, mask_of}
 use Rattle.bits.proofs.Laws.Masks.{has_none, has_mask}
 use Rattle.bits.proofs.Laws.Sets.{has_below}
-use Rattle.policy.specs.declared.record.Asked.{Asked}
-use Rattle.policy.specs.Asked.{asked_number}
 use Rattle.policy.specs.Limits.{Limits}
 use Rattle.policy.specs.Range.{no_segment}
 use Rattle.policy.specs.Sound.{sound_of}
@@ -25,13 +24,9 @@ use Rattle.policy.proofs.Laws.Lists.{list_long, list_at, list_same}
 use Rattle.calls.specs.Under.{Under, under}
 use Rattle.reach.specs.Via.{reaches}
 use Rattle.reach.specs.Rows.{those_below, row_of, row_mask, report_masks}
-use Rattle.reach.specs.Answers.{reach_asked, reach_answer, can_reach_asked, can_reach_answer}
+use Rattle.reach.specs.Answers.{reach_answer, can_reach_answer}
 use Rattle.reach.specs.Exact.{MaskExact, MasksReport, Agrees}
 use Rattle.reach.proofs.Laws.Rows.{those_pass, those_hold, those_same}
-
--- Answers with other numbers differ.
-other : {a b : Asked} → (asked_number a ≡ asked_number b → ⊥) → a ≡ b → ⊥
-other n e = n (ap asked_number e)
 
 none_set : (n t s : ℕ) → has (get_or (replicate n 0) t 0) s ≡ false
 none_set n t s = ap (λ (m : ℕ). has m s) (zero_at n t) ∙ has_none s
@@ -71,23 +66,23 @@ module _ (limits : Limits) (v : View) (s t : ℕ) where
   with sound = record { limits = limits; view = v; sound = sound }
 
   agree_unsound : Agrees (with false) s t
-  unfolding reach_answer reach_asked can_reach_answer can_reach_asked
+  unfolding reach_answer can_reach_answer
   agree_unsound =
       record {
         yes = sym (none_set limits.segments t s);
         unsound = (λ e. refl, λ e. refl);
-        no_segment = (λ e. absurd (other (λ n. omega arith) e), λ p. absurd (other (λ n. omega arith) p.0));
+        no_segment = (λ e. absurd (cc), λ p. absurd (true≢false (sym p.0)));
       }
 
   agree_sound : v.segments ≤ limits.segments → Agrees (with true) s t
-  unfolding reach_answer reach_asked can_reach_answer can_reach_asked
+  unfolding reach_answer can_reach_answer
   agree_sound few = go (no_segment v s || no_segment v t) refl
     where
       go : (d : Bool) → no_segment v s || no_segment v t ≡ d → Agrees (with true) s t
       go true e =
           record {
             yes = rw e (sym (bit_outside limits v few s t e));
-            unsound = rw e (λ q. absurd (other (λ n. omega arith) q), λ q. absurd (other (λ n. omega arith) q));
+            unsound = rw e (λ q. absurd (cc), λ q. absurd (cc));
             no_segment = rw e (λ q. (refl, out), λ p. refl);
           }
         where
@@ -101,8 +96,8 @@ module _ (limits : Limits) (v : View) (s t : ℕ) where
           let b : t < v.segments = leb-false v.segments t both.1 in
           record {
             yes = rw e (sym (bit_inside limits v few s t a b));
-            unsound = rw e (λ q. absurd (other (λ n. omega arith) q), λ q. absurd (other (λ n. omega arith) q));
-            no_segment = rw e (λ q. absurd (other (λ n. omega arith) q), λ p. absurd (p.1 (a, b)));
+            unsound = rw e (λ q. absurd (cc), λ q. absurd (cc));
+            no_segment = rw e (λ q. absurd (cc), λ p. absurd (p.1 (a, b)));
           }
 
 module _ (limits : Limits) (tables : Tables) where
@@ -132,13 +127,17 @@ module _ (limits : Limits) (tables : Tables) where
         absurd (true≢false (sym e ∙ bit_outside limits v bit_few s t (rw (le-leb v.segments s (omega arith)))))
 
     pub mask_exact : MaskExact (under limits tables) t
-    unfolding reach_answer reach_asked
+    unfolding reach_answer
     mask_exact s =
         rw h
         (bit_row_lem s (dec_lt s v.segments), λ m. let p = those_pass test v.segments s m in bit s p.0 ∙ p.1)
 
+  pub reach_ok : sound_of limits tables ≡ true → reach_answer (under limits tables) ≡ Ok (report_masks limits (view_of tables))
+  unfolding reach_answer
+  reach_ok h = rw h
+
   pub masks_report : sound_of limits tables ≡ true → MasksReport (under limits tables)
-  unfolding reach_answer reach_asked
+  unfolding reach_answer
   masks_report h =
       let v = view_of tables in
       let few = (lawful limits tables h).few_segments in

@@ -1,8 +1,8 @@
 -- What is proved of the report and the question; the proofs are in proofs/.
-use Rattle.std.specs.Prelude.{ℕ, ◌<◌, ◌≡◌, true, ◌⊎◌, ◌↔◌, get_or}
+use Rattle.std.specs.Prelude.{ℕ, ◌<◌, ◌≡◌, true, ◌⊎◌, ◌↔◌, get_or, Err, IsOk}
 use mathlib.Core.List.{List, [], ◌∷◌, Memᴰ}
 use Rattle.bits.specs.Masks.{has}
-use Rattle.policy.specs.declared.record.Asked.TheVariants.{Answered, Unsound, NoSegment}
+use Rattle.policy.specs.declared.record.NoAnswer.TheVariants.{Unsound, NoSegment}
 use Rattle.policy.specs.Below.{list_below}
 use Rattle.policy.specs.View.{View}
 use Rattle.policy.specs.Chain.{Chain}
@@ -10,7 +10,7 @@ use Rattle.calls.specs.Under.{Under}
 use Rattle.calls.specs.Lists.{Source}
 use Rattle.reach.specs.Via.{reaches}
 use Rattle.reach.specs.Rows.{those_below, row_of, report_of}
-use Rattle.reach.specs.Answers.{reach_answer, can_reach_answer}
+use Rattle.reach.specs.Answers.{reach_answer, can_reach_answer, rows_shown, yes_shown}
 
 -- "A chain may have any length, and the report must be exact." The chain is document 01's, the one that demand 3 speaks of.
 abbrev pub Exact : View → Type 0
@@ -40,19 +40,19 @@ Sources v t = (s : ℕ) → ((s ≡ t) ⊎ Memᴰ s (row_of v t)) ↔ Source v t
 
 -- A report's mask is the row.
 abbrev pub MaskExact : Under → ℕ → Type 0
-MaskExact u t = (s : ℕ) → (has (get_or (reach_answer u).rows t 0) s ≡ true) ↔ Memᴰ s (row_of u.view t)
+MaskExact u t = (s : ℕ) → (has (get_or (rows_shown u) t 0) s ≡ true) ↔ Memᴰ s (row_of u.view t)
 
 -- All masks together are the report.
 abbrev pub MasksReport : Under → Type 0
 MasksReport u =
-    list_below u.view.segments (λ t. those_below u.view.segments (has (get_or (reach_answer u).rows t 0))) ≡ report_of u.view
+    list_below u.view.segments (λ t. those_below u.view.segments (has (get_or (rows_shown u) t 0))) ≡ report_of u.view
 
 -- "always agrees with the report": of every record, sound or not, and of every two numbers.
 pub record Agrees (u : Under) (s t : ℕ) : Type 0 where
-  pub yes : (can_reach_answer u s t).yes ≡ has (get_or (reach_answer u).rows t 0) s
+  pub yes : yes_shown u s t ≡ has (get_or (rows_shown u) t 0) s
   -- 10 on both
-  pub unsound : ((can_reach_answer u s t).asked ≡ Unsound) ↔ ((reach_answer u).asked ≡ Unsound)
+  pub unsound : (can_reach_answer u s t ≡ Err Unsound) ↔ (reach_answer u ≡ Err Unsound)
   -- 15 has no row: the report is answered, and s or t isn't a segment
   pub no_segment :
-      ((can_reach_answer u s t).asked ≡ NoSegment)
-      ↔ (((reach_answer u).asked ≡ Answered) × ((s < u.view.segments) × (t < u.view.segments) → ⊥))
+      (can_reach_answer u s t ≡ Err NoSegment)
+      ↔ (IsOk (reach_answer u) × ((s < u.view.segments) × (t < u.view.segments) → ⊥))

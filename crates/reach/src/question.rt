@@ -1,42 +1,21 @@
-// The question whether one segment can reach another, and the number of an answer.
+// The question whether one segment can reach another.
 ghost use Rattle.std.specs.Prelude.{◌≡◌};
-ghost use Rattle.policy.specs.Asked.{asked_number};
 ghost use Rattle.calls.specs.Under.{under_policy};
 ghost use Rattle.reach.specs.Answers.{can_reach_answer};
 
-use crate::Answer;
 use crate::search::leads;
-use policy::{Asked, Policy};
+use policy::{NoAnswer, Policy};
 use validate::passes_test;
 
-pub fn asked_number(asked: Asked) -> u32
-    ensures { result ≡ asked_number asked }
+pub fn can_reach(policy: &Policy, from: u32, to: u32) -> Result<bool, NoAnswer>
+    ensures { result ≡ can_reach_answer (under_policy policy.now) from to }
 {
-    match asked {
-        Asked::Answered => 0,
-        Asked::Unsound => 10,
-        Asked::NoSegment => 15,
+    if !passes_test(policy) {
+        return Err(NoAnswer::Unsound);
     }
-}
-
-pub fn can_reach(policy: Policy, from: u32, to: u32) -> Answer
-    ensures { result ≡ can_reach_answer (under_policy policy) from to }
-{
-    if !passes_test(&policy) {
-        return Answer {
-            asked: Asked::Unsound,
-            yes: false,
-        };
+    let segments = u32::from(policy.segments);
+    if (segments <= from) | (segments <= to) {
+        return Err(NoAnswer::NoSegment);
     }
-    let segments = policy.segments;
-    if (segments as u32 <= from) | (segments as u32 <= to) {
-        return Answer {
-            asked: Asked::NoSegment,
-            yes: false,
-        };
-    }
-    Answer {
-        asked: Asked::Answered,
-        yes: leads(&policy.sources, segments, from as u8, to as u8),
-    }
+    Ok(leads(&policy.sources, policy.segments, from as u8, to as u8))
 }

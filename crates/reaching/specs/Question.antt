@@ -1,10 +1,11 @@
 -- What policyreach writes when it is asked whether one segment can reach another.
-use Rattle.std.specs.Prelude.{ℕ, Bool, true, false, cond, List, [], ◌∷◌, ◌++◌, eqb, length, Option, Some, None}
+use Rattle.std.specs.Prelude.{ℕ, Bool, true, false, cond, List, [], ◌∷◌, ◌++◌, eqb, length, Option, Some, None, Result, Ok, Err}
 use Rattle.text.specs.declared.line.Cursor.{Cursor}
 use Rattle.text.specs.Bytes.{bytes_of}
 use Rattle.text.specs.Cut.{tab, line_end}
 use Rattle.text.specs.Readers.{Found, inner_read, last_read}
-use Rattle.policy.specs.Asked.{asked_number, is_answered}
+use Rattle.policy.specs.declared.record.NoAnswer.{NoAnswer}
+use Rattle.policy.specs.Asked.{no_answer_number}
 use Rattle.policy.specs.Limits.{Limits}
 use Rattle.policy.specs.Refusals.{is_accepted}
 use Rattle.policy.specs.Read.{Answer, read_of}
@@ -13,7 +14,6 @@ use Rattle.writing.specs.Row.{field}
 use Rattle.report.specs.Report.{refused_row}
 use Rattle.report.specs.Rows.{refused_with}
 use Rattle.reach.specs.Answers.{can_reach_answer}
-use Rattle.reach.specs.declared.Answer.{Answer as Question}
 use Rattle.reaching.specs.declared.words.Words.{Words}
 
 -- The program's words are read as the fields of a policy text's line: a tab behind the first, a line end behind the second.
@@ -43,8 +43,9 @@ unfoldable pub reach_line : ℕ → ℕ → Bool → List ℕ
 reach_line s t reached = bytes_of "reach" ++ field s ++ field t ++ yes_end reached
 
 -- 02, S-1: "Refused: 15 if s or t isn't a segment": as a refused text's line has it, with line 0
-unfoldable pub answer_line : ℕ → ℕ → Question → List ℕ
-answer_line s t a = cond (is_answered a.asked) (reach_line s t a.yes) (refused_with (asked_number a.asked) 0)
+unfoldable pub answer_line : ℕ → ℕ → Result Bool NoAnswer → List ℕ
+answer_line s t (Ok reached) = reach_line s t reached
+answer_line s t (Err why) = refused_with (no_answer_number why) 0
 
 -- Of an accepted text the question's answer, of a refused one policycheck's line.
 unfoldable pub question_line : Limits → ℕ → ℕ → Answer → List ℕ

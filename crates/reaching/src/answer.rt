@@ -9,7 +9,7 @@ ghost use Rattle.reaching.specs.Question.{answer_line, question_of, reach_line, 
 
 use crate::words::words_in;
 use policy::Policy;
-use reach::{asked_number, can_reach};
+use reach::can_reach;
 use report::put_refused;
 use writing::{put_field, put_row, put_word};
 
@@ -36,18 +36,14 @@ fn put_reach(out: &mut [u8], from: u32, to: u32, yes: bool) -> usize
     put_yes(out, target, yes)
 }
 
-fn put_answer(policy: Policy, from: u32, to: u32, out: &mut [u8]) -> usize
+fn put_answer(policy: &Policy, from: u32, to: u32, out: &mut [u8]) -> usize
     requires { 17 ≤ length out.old }
-    ensures { Written out.old 0 (answer_line from to (can_reach_answer (under_policy policy) from to)) out.new result }
+    ensures { Written out.old 0 (answer_line from to (can_reach_answer (under_policy policy.now) from to)) out.new result }
 {
-    let answer = can_reach(policy, from, to);
-    let asked = answer.asked;
-    let number = asked_number(asked);
-    if number != 0 {
-        let row = [number, 0];
-        return put_row(out, 0, b"refused", &row);
+    match can_reach(policy, from, to) {
+        Ok(yes) => put_reach(out, from, to, yes),
+        Err(why) => put_row(out, 0, b"refused", &[u32::from(why), 0]),
     }
-    put_reach(out, from, to, answer.yes)
 }
 
 // Writes the answer about a text to the question that words ask, as the fields of a line, whatever they are, from the buffer's start
@@ -61,7 +57,7 @@ pub fn answer_on(text: &[u8], words: &[u8], out: &mut [u8; 3424]) -> usize
         return put_word(out, 0, b"usage: policyreach [FROM TO] < POLICY\n");
     };
     match reader::read(text) {
-        Ok(policy) => put_answer(policy, asked.from, asked.to, out),
+        Ok(policy) => put_answer(&policy, asked.from, asked.to, out),
         Err(refusal) => put_refused(refusal, out),
     }
 }

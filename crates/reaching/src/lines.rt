@@ -75,8 +75,8 @@ pub fn report_on(text: &[u8], out: &mut [u8; 3424]) -> usize
 {
     match reader::read(text) {
         Ok(policy) => {
-            let report = reach(policy);
-            put_lines(out, &report.rows, policy.segments)
+            let rows = reach(&policy).unwrap();
+            put_lines(out, &rows, policy.segments)
         }
         Err(refusal) => put_refused(refusal, out),
     }

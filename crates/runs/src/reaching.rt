@@ -5,10 +5,9 @@ use std::io;
 
 // The number, and all masks of the report.
 pub(crate) fn show_masks(rt: &impl Print, policy: Policy) -> io::Result<()> {
-    let report = reach::reach(policy);
-    let asked = report.asked;
-    let rows = report.rows;
-    show_number(rt, b"\t", reach::asked_number(asked))?;
+    let answer = reach::reach(&policy);
+    let rows = answer.unwrap_or([0; 32]);
+    show_number(rt, b"\t", answer.err().map_or(0, u32::from))?;
     show_number(rt, b"\t", rows[0])?;
     let mut t = 1;
     while t < 32 {
@@ -20,10 +19,9 @@ pub(crate) fn show_masks(rt: &impl Print, policy: Policy) -> io::Result<()> {
 
 // The number, and 1 for yes.
 pub(crate) fn show_reach(rt: &impl Print, policy: Policy, from: u32, to: u32) -> io::Result<()> {
-    let answer = reach::can_reach(policy, from, to);
-    let asked = answer.asked;
-    show_number(rt, b"\t", reach::asked_number(asked))?;
-    if answer.yes {
+    let answer = reach::can_reach(&policy, from, to);
+    show_number(rt, b"\t", answer.err().map_or(0, u32::from))?;
+    if answer.unwrap_or(false) {
         show(rt, b"\t1\n")
     } else {
         show(rt, b"\t0\n")

@@ -1,6 +1,7 @@
 // The schedule sheet.
 use policy::Policy;
 use script::{show, show_number};
+use sheet::Sheet;
 use std::io;
 
 // Eight numbers, after what parts them from the field before.
@@ -16,9 +17,12 @@ fn show_row(rt: &impl Print, row: &[u32; 8]) -> io::Result<()> {
 
 // The number, the ticks of each partition, and the longest silence of each.
 pub(crate) fn show_sheet(rt: &impl Print, policy: Policy) -> io::Result<()> {
-    let sheet = sheet::sheet_of(policy);
-    let asked = sheet.asked;
-    show_number(rt, b"\t", reach::asked_number(asked))?;
+    let answer = sheet::sheet_of(&policy);
+    let sheet = answer.unwrap_or(Sheet {
+        ticks: [0; 8],
+        silence: [0; 8],
+    });
+    show_number(rt, b"\t", answer.err().map_or(0, u32::from))?;
     show_row(rt, &sheet.ticks)?;
     show_row(rt, &sheet.silence)?;
     show(rt, b"\n")

@@ -14,20 +14,23 @@ use Rattle.policy.proofs.Longest.{longest}
 use Rattle.policy.proofs.Schedule.{adds_up_to, moves_little}
 use Rattle.policy.proofs.Laws.Sums.{sum_same}
 use Rattle.sheet.specs.Shown.{SheetLongest, SheetAddsUp, SheetMovesLittle, with_ticks}
-use Rattle.sheet.proofs.Laws.Answer.{own_at, silence_at}
+use Rattle.sheet.proofs.Laws.Answer.{own_at, silence_at, sheet_ok}
 
 pub sheet_longest : (limits : Limits) (t : Tables) → SheetLongest limits t
-sheet_longest limits t h p own = rw (silence_at limits t h p) (longest limits (view_of t) (lawful limits t h) p own)
+sheet_longest limits t h =
+    rw (sheet_ok limits t h) (λ p own. rw (silence_at limits t h p) (longest limits (view_of t) (lawful limits t h) p own))
 
 pub sheet_adds_up : (limits : Limits) (t : Tables) → SheetAddsUp limits t
 sheet_adds_up limits t h =
-    sum_same _ (own_ticks (view_of t)) limits.partitions (λ p l. own_at limits t h p)
-    ∙ adds_up_to limits (view_of t) (lawful limits t h) limits.partitions (lawful limits t h).few_partitions
+    rw (sheet_ok limits t h)
+    (sum_same _ (own_ticks (view_of t)) limits.partitions (λ p l. own_at limits t h p)
+    ∙ adds_up_to limits (view_of t) (lawful limits t h) limits.partitions (lawful limits t h).few_partitions)
 
 pub sheet_moves_little : (limits : Limits) (t : Tables) (j n : ℕ) → SheetMovesLittle limits t j n
-sheet_moves_little limits t j n h g l p =
-    rw (silence_at limits t h p, silence_at limits (with_ticks t j n) g p)
-    (rw same at (moves_little (view_of t) (view_of (with_ticks t j n)) j apart p))
+sheet_moves_little limits t j n h g l =
+    rw (sheet_ok limits t h, sheet_ok limits (with_ticks t j n) g)
+    (λ p. rw (silence_at limits t h p, silence_at limits (with_ticks t j n) g p)
+    (rw same at (moves_little (view_of t) (view_of (with_ticks t j n)) j apart p)))
   where
     same : get_or (with_ticks t j n).slots.ticks j 0 ≡ n
     same = get_or-set_same t.slots.ticks j n 0 (omega (arith, (lengths limits t h).ticks, (lawful limits t h).few_slots))

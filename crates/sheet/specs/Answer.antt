@@ -1,8 +1,8 @@
 -- 02, S-7: "We want a sheet with, for each partition, its ticks in one round and the longest stretch of ticks in a row, going round the
 -- end, in which it isn't current. A partition with no slot shows 0 and 0. [..] Refused: 10, all zeros."
-use Rattle.std.specs.Prelude.{ℕ, cond, List, ltb, replicate}
-use Rattle.policy.specs.declared.record.Asked.{Asked}
-use Rattle.policy.specs.Asked.{sound_asked, answers}
+use Rattle.std.specs.Prelude.{ℕ, cond, List, ltb, Result}
+use Rattle.policy.specs.declared.record.NoAnswer.{NoAnswer}
+use Rattle.policy.specs.Asked.{where_sound}
 use Rattle.policy.specs.Below.{list_below}
 use Rattle.policy.specs.Limits.{Limits}
 use Rattle.policy.specs.View.{View}
@@ -14,18 +14,13 @@ use Rattle.sheet.specs.declared.Sheet.{Sheet}
 abbrev pub for_each : Limits → View → (ℕ → ℕ) → List ℕ
 for_each limits v number = list_below limits.partitions (λ p. cond (ltb p v.partitions) (number p) 0)
 
--- "Refused: 10"
-abbrev pub sheet_asked : Under → Asked
-sheet_asked u = sound_asked u.sound
-
--- "all zeros"
-abbrev pub shown : Under → (ℕ → ℕ) → List ℕ
-shown u number = answers (sheet_asked u) (for_each u.limits u.view number) (replicate u.limits.partitions 0)
-
-unfoldable pub sheet_answer : Under → Sheet
-sheet_answer u =
+abbrev pub sheet_for : Limits → View → Sheet
+sheet_for limits v =
     record {
-      asked = sheet_asked u;
-      ticks = shown u (own_ticks u.view);
-      silence = shown u (silence u.view);
+      ticks = for_each limits v (own_ticks v);
+      silence = for_each limits v (silence v);
     }
+
+-- "Refused: 10". What a refused one shows is the boundary's.
+unfoldable pub sheet_answer : Under → Result Sheet NoAnswer
+sheet_answer u = where_sound u.sound (sheet_for u.limits u.view)

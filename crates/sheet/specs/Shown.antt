@@ -1,5 +1,5 @@
 -- What is proved of the sheet of a sound record; the proofs are in proofs/. policy's Silence has what its numbers mean.
-use Rattle.std.specs.Prelude.{ℕ, ◌<◌, ◌≤◌, ◌≡◌, true, get_or, set}
+use Rattle.std.specs.Prelude.{ℕ, ◌<◌, ◌≤◌, ◌≡◌, true, get_or, set, IsOkAnd}
 use Rattle.policy.specs.Below.{sum_below}
 use Rattle.policy.specs.Limits.{Limits}
 use Rattle.policy.specs.Tables.{Tables, view_of}
@@ -13,13 +13,15 @@ use Rattle.sheet.specs.Answer.{sheet_answer}
 abbrev pub SheetLongest : Limits → Tables → Type 0
 SheetLongest limits t =
     sound_of limits t ≡ true →
-    (p : ℕ) → has_slot (view_of t) p ≡ true → IsLongest (view_of t) p (get_or (sheet_answer (under limits t)).silence p 0)
+    IsOkAnd (sheet_answer (under limits t))
+    (λ sheet. (p : ℕ) → has_slot (view_of t) p ≡ true → IsLongest (view_of t) p (get_or sheet.silence p 0))
 
 -- "The ticks of all partitions add up to the ticks of one round."
 abbrev pub SheetAddsUp : Limits → Tables → Type 0
 SheetAddsUp limits t =
     sound_of limits t ≡ true →
-    sum_below limits.partitions (λ p. get_or (sheet_answer (under limits t)).ticks p 0) ≡ round_ticks (view_of t)
+    IsOkAnd (sheet_answer (under limits t))
+    (λ sheet. sum_below limits.partitions (λ p. get_or sheet.ticks p 0) ≡ round_ticks (view_of t))
 
 -- The record with other ticks of slot j.
 abbrev pub with_ticks : Tables → ℕ → ℕ → Tables
@@ -38,6 +40,7 @@ with_ticks t j n =
 abbrev pub SheetMovesLittle : Limits → Tables → ℕ → ℕ → Type 0
 SheetMovesLittle limits t j n =
     sound_of limits t ≡ true → sound_of limits (with_ticks t j n) ≡ true → j < t.slots.count →
-    (p : ℕ) →
-    distance (get_or (sheet_answer (under limits t)).silence p 0) (get_or (sheet_answer (under limits (with_ticks t j n))).silence p 0)
-    ≤ distance (get_or t.slots.ticks j 0) n
+    IsOkAnd (sheet_answer (under limits t))
+    (λ sheet. IsOkAnd (sheet_answer (under limits (with_ticks t j n)))
+    (λ other. (p : ℕ) →
+    distance (get_or sheet.silence p 0) (get_or other.silence p 0) ≤ distance (get_or t.slots.ticks j 0) n))

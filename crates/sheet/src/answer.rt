@@ -6,18 +6,14 @@ ghost use Rattle.sheet.specs.Answer.{sheet_answer};
 use crate::Sheet;
 use crate::longest::find_longest;
 use crate::own::add_slots;
-use policy::{Asked, Policy};
+use policy::{NoAnswer, Policy};
 use validate::passes_test;
 
-pub fn sheet_of(policy: Policy) -> Sheet
-    ensures { result ≡ sheet_answer (under_policy policy) }
+pub fn sheet_of(policy: &Policy) -> Result<Sheet, NoAnswer>
+    ensures { result ≡ sheet_answer (under_policy policy.now) }
 {
-    if !passes_test(&policy) {
-        return Sheet {
-            asked: Asked::Unsound,
-            ticks: [0; 8],
-            silence: [0; 8],
-        };
+    if !passes_test(policy) {
+        return Err(NoAnswer::Unsound);
     }
     let mut own = [0u32; 8];
     let mut ahead = [0u32; 8];
@@ -37,9 +33,8 @@ pub fn sheet_of(policy: Policy) -> Sheet
         &mut ahead,
         &mut silence,
     );
-    Sheet {
-        asked: Asked::Answered,
+    Ok(Sheet {
         ticks: own,
         silence,
-    }
+    })
 }

@@ -5,14 +5,11 @@ mod answer;
 mod longest;
 mod own;
 
-use policy::Asked;
-
-// Of each partition; 0 past the partitions, and all 0 where it is refused.
+// Of each partition; 0 past the partitions.
 #[derive(Clone, Copy)]
 pub struct Sheet {
     pub ticks: [u32; 8],
     pub silence: [u32; 8],
-    pub asked: Asked,
 }
 
 pub use answer::sheet_of;

@@ -39,7 +39,7 @@ pub fn sheet_on(text: &[u8], out: &mut [u8; 204]) -> usize
 {
     match reader::read(text) {
         Ok(policy) => {
-            let sheet = sheet_of(policy);
+            let sheet = sheet_of(&policy).unwrap();
             let next = put_partitions(out, &sheet.ticks, &sheet.silence, policy.partitions);
             let round = [round_ticks(&policy.ticks, policy.slots)];
             put_row(out, next, b"round", &round)

@@ -1,4 +1,4 @@
--- Which answers have number 0, and that these name two segments.
+-- An answer that is no refusal names two segments.
 use Prim.Native.Nat.{ℕ, ◌≤◌, ◌<◌}
 use mathlib.Core.Path.{◌≡◌, refl, sym}
 use mathlib.Core.Bool.{Bool, true, false, not, ◌||◌, cond, true≢false}
@@ -6,10 +6,10 @@ use mathlib.Core.List.{List}
 use native.Mathlib.Omega.{arith}
 use borrow.Author.Tests.{leb-false}
 use lib.ListN.{length, length-append}
-use Rattle.std.specs.Prelude.{Option, Some, None}
-use Rattle.policy.specs.declared.record.Asked.{Asked}
-use Rattle.policy.specs.declared.record.Asked.TheVariants.{Answered, Unsound, NoSegment}
-use Rattle.policy.specs.Asked.{asked_number, is_answered}
+use Rattle.std.specs.Prelude.{Option, Some, None, Result, Ok, Err}
+use Rattle.policy.specs.declared.record.NoAnswer.{NoAnswer}
+use Rattle.policy.specs.declared.record.NoAnswer.TheVariants.{Unsound, NoSegment}
+use Rattle.policy.specs.Asked.{no_answer_number}
 use Rattle.policy.specs.Limits.{Limits}
 use Rattle.policy.specs.Refusals.{is_accepted}
 use Rattle.policy.specs.Read.{Answer, read_of}
@@ -22,35 +22,29 @@ use Rattle.calls.specs.Under.{under}
 use Rattle.report.specs.Report.{refused_row}
 use Rattle.report.specs.Rows.{refused_with}
 use Rattle.report.proofs.Laws.Rows.{refused_length}
-use Rattle.reach.specs.Answers.{can_reach_asked, can_reach_answer}
+use Rattle.reach.specs.Via.{reaches}
+use Rattle.reach.specs.Answers.{can_reach_answer}
 use Rattle.reaching.specs.declared.words.Words.{Words}
 use Rattle.reaching.specs.Question.{words_of, yes_end, reach_line, answer_line, question_line, usage, question_of}
 use Rattle.reaching.proofs.Laws.Lines.{field_short}
 
-pub answered_is : (a : Asked) {n : ℕ} → n ≡ asked_number a → n ≡ 0 → is_answered a ≡ true
-answered_is Answered e z = refl
-answered_is Unsound e z = absurd (omega arith)
-answered_is NoSegment e z = absurd (omega arith)
+pub number_small : (why : NoAnswer) → no_answer_number why < 100
+number_small Unsound = omega arith
+number_small NoSegment = omega arith
 
-pub answered_not : (a : Asked) {n : ℕ} → n ≡ asked_number a → (n ≡ 0 → ⊥) → is_answered a ≡ false
-answered_not Answered e z = absurd (z e)
-answered_not Unsound e z = refl
-answered_not NoSegment e z = refl
+-- By whether the record is sound, and whether a number is no segment.
+abbrev by_tests : Bool → Bool → Bool → Result Bool NoAnswer
+by_tests sound outside reached = cond (not sound) (Err Unsound) (cond outside (Err NoSegment) (Ok reached))
 
-pub asked_small : (a : Asked) → asked_number a < 100
-asked_small Answered = omega arith
-asked_small Unsound = omega arith
-asked_small NoSegment = omega arith
-
-pub asked_inside : (limits : Limits) (t : Tables) (s u : ℕ) → is_answered (can_reach_asked (under limits t) s u) ≡ true →
+pub asked_inside : (limits : Limits) (t : Tables) (s u : ℕ) {reached : Bool} → Ok reached ≡ can_reach_answer (under limits t) s u →
     (s < limits.segments) × (u < limits.segments)
-unfolding can_reach_asked
-asked_inside limits t s u = go (sound_of limits t) refl (no_segment (view_of t) s || no_segment (view_of t) u) refl
+unfolding can_reach_answer
+asked_inside limits t s u {reached} = go (sound_of limits t) refl (no_segment (view_of t) s || no_segment (view_of t) u) refl
   where
     go : (b : Bool) → sound_of limits t ≡ b → (d : Bool) → no_segment (view_of t) s || no_segment (view_of t) u ≡ d →
-        is_answered (cond (not b) Unsound (cond d NoSegment Answered)) ≡ true → (s < limits.segments) × (u < limits.segments)
-    go false e d f h = absurd (true≢false (sym h))
-    go true e true f h = absurd (true≢false (sym h))
+        Ok reached ≡ by_tests b d (reaches (view_of t) s u) → (s < limits.segments) × (u < limits.segments)
+    go false e d f h = absurd (cc)
+    go true e true f h = absurd (cc)
     go true e false f h =
         let both = or_both (no_segment (view_of t) s) (no_segment (view_of t) u) f in
         let few = (lawful limits t e).few_segments in
@@ -59,23 +53,19 @@ asked_inside limits t s u = go (sound_of limits t) refl (no_segment (view_of t) 
 -- An answer's line has at most 17 bytes.
 pub answer_short : (limits : Limits) (t : Tables) (s u : ℕ) → limits.segments ≤ 32 →
     length (answer_line s u (can_reach_answer (under limits t) s u)) ≤ 17
-unfolding answer_line reach_line can_reach_answer
-answer_short limits t s u few = go (is_answered asked) refl (can_reach_answer (under limits t) s u).yes
+unfolding answer_line reach_line
+answer_short limits t s u few = go (can_reach_answer (under limits t) s u) refl
   where
-    asked : Asked
-    asked = can_reach_asked (under limits t) s u
-
     end : (y : Bool) → length (yes_end y) ≤ 5
     end true = omega arith
     end false = omega arith
 
-    go : (b : Bool) → is_answered asked ≡ b → (y : Bool) →
-        length (cond b (reach_line s u y) (refused_with (asked_number asked) 0)) ≤ 17
-    go true e y =
+    go : (a : Result Bool NoAnswer) → a ≡ can_reach_answer (under limits t) s u → length (answer_line s u a) ≤ 17
+    go (Ok reached) e =
         let inside = asked_inside limits t s u e in
         simp length-append
-        (omega (arith, field_short s (omega (arith, inside.0)), field_short u (omega (arith, inside.1)), end y))
-    go false e y = refused_length (asked_number asked) 0 (asked_small asked) (omega arith)
+        (omega (arith, field_short s (omega (arith, inside.0)), field_short u (omega (arith, inside.1)), end reached))
+    go (Err why) e = refused_length (no_answer_number why) 0 (number_small why) (omega arith)
 
 -- What is written, by what the words ask and what reading answers.
 module _ (limits : Limits) (text words : List ℕ) {o : Option Words} (e : o ≡ words_of words) where

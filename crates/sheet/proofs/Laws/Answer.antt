@@ -8,6 +8,7 @@ use native.Mathlib.Decide.{dec_lt}
 use borrow.Author.Tests.{lt-ltb, le-ltb, ne_eqb}
 use lib.Dec.{ltb}
 use lib.ListN.{length, get_or, get_or-eq_default}
+use Rattle.std.specs.Prelude.{Ok}
 use Rattle.policy.specs.Below.{list_below}
 use Rattle.policy.specs.Limits.{Limits}
 use Rattle.policy.specs.View.{View}
@@ -20,7 +21,7 @@ use Rattle.policy.proofs.Schedule.{no_slot}
 use Rattle.policy.proofs.Laws.Below.{none_of}
 use Rattle.policy.proofs.Laws.Lists.{list_same, list_long, list_at}
 use Rattle.calls.specs.Under.{under}
-use Rattle.sheet.specs.Answer.{for_each, sheet_answer}
+use Rattle.sheet.specs.Answer.{for_each, sheet_for, sheet_answer}
 use Rattle.sheet.specs.Slots.{Scheduled, Walkable}
 
 -- A list of so many numbers, by its own length.
@@ -69,22 +70,22 @@ module _ (limits : Limits) (t : Tables) (h : sound_of limits t ≡ true) where
           get_or-eq_default (list_below limits.partitions f) 0 {n = p} (rw (list_long f limits.partitions) (omega arith))
           ∙ sym (none p (past_none p (omega (arith, (lawful limits t h).few_partitions))))
 
-  pub own_at : (p : ℕ) → get_or (sheet_answer (under limits t)).ticks p 0 ≡ own_ticks v p
-  unfolding sheet_answer
-  own_at p = rw h (shown_at (own_ticks v) (λ p e. (no_slot v p e).0) p)
+  pub own_at : (p : ℕ) → get_or (sheet_for limits v).ticks p 0 ≡ own_ticks v p
+  own_at p = shown_at (own_ticks v) (λ p e. (no_slot v p e).0) p
 
-  pub silence_at : (p : ℕ) → get_or (sheet_answer (under limits t)).silence p 0 ≡ silence v p
-  unfolding sheet_answer
-  silence_at p = rw h (shown_at (silence v) (λ p e. (no_slot v p e).1) p)
+  pub silence_at : (p : ℕ) → get_or (sheet_for limits v).silence p 0 ≡ silence v p
+  silence_at p = shown_at (silence v) (λ p e. (no_slot v p e).1) p
 
-  -- The sheet of a sound record has a number for each partition of the head.
-  pub ticks_long : length (sheet_answer (under limits t)).ticks ≡ limits.partitions
+  pub sheet_ok : sheet_answer (under limits t) ≡ Ok (sheet_for limits v)
   unfolding sheet_answer
-  ticks_long = rw h (list_long _ limits.partitions)
+  sheet_ok = rw h
 
-  pub silence_long : length (sheet_answer (under limits t)).silence ≡ limits.partitions
-  unfolding sheet_answer
-  silence_long = rw h (list_long _ limits.partitions)
+  -- The sheet has a number for each partition of the head.
+  pub ticks_long : length (sheet_for limits v).ticks ≡ limits.partitions
+  ticks_long = list_long _ limits.partitions
+
+  pub silence_long : length (sheet_for limits v).silence ≡ limits.partitions
+  silence_long = list_long _ limits.partitions
 
   pub own_shown : list_below limits.partitions (own_ticks v) ≡ for_each limits v (own_ticks v)
   own_shown = for_each_lem (own_ticks v) (λ p e. (no_slot v p e).0)

@@ -6,6 +6,8 @@ use mathlib.Core.List.{List}
 use native.Mathlib.Numerals.{add-one}
 use native.Mathlib.Omega.{arith}
 use lib.ListN.{get_or, length, length-append}
+use Rattle.std.specs.Prelude.{Result, Ok}
+use Rattle.policy.specs.declared.record.NoAnswer.{NoAnswer}
 use Rattle.policy.specs.Limits.{single}
 use Rattle.policy.specs.View.{View}
 use Rattle.policy.specs.Tables.{Tables, view_of}
@@ -18,8 +20,8 @@ use Rattle.policy.proofs.Schedule.{less}
 use Rattle.policy.proofs.Laws.Sums.{sum_most}
 use Rattle.calls.specs.Under.{under}
 use Rattle.sheet.specs.declared.Sheet.{Sheet}
-use Rattle.sheet.specs.Answer.{sheet_answer}
-use Rattle.sheet.proofs.Laws.Answer.{own_at, silence_at, ticks_long, silence_long}
+use Rattle.sheet.specs.Answer.{sheet_for, sheet_answer}
+use Rattle.sheet.proofs.Laws.Answer.{sheet_ok, own_at, silence_at, ticks_long, silence_long}
 use Rattle.writing.specs.Written.{Written}
 use Rattle.writing.proofs.Laws.Digits.{digits_width}
 use Rattle.writing.proofs.Laws.Written.{written_then}
@@ -64,8 +66,11 @@ module _ (t : Tables) (h : sound_of single t ≡ true) where
       rw length-append
       (omega (arith, few, lines_short (own_ticks (view_of t)) (silence (view_of t)) own_small silence_small t.partitions.count (omega (arith, few)), round_short (round_ticks (view_of t)) round_small))
 
+  pub sheet_is : {a : Result Sheet NoAnswer} {s : Sheet} → a ≡ sheet_answer (under single t) → a ≡ Ok s → s ≡ sheet_for single (view_of t)
+  sheet_is e f = cc (sheet_ok single t h)
+
   -- The numbers that the loop is lent.
-  module _ {s : Sheet} (e : s ≡ sheet_answer (under single t)) where
+  module _ {s : Sheet} (e : s ≡ sheet_for single (view_of t)) where
     abbrev pub ticks_in : ℕ → ℕ
     ticks_in p = get_or s.ticks p 0
 

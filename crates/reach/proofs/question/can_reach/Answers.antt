@@ -10,19 +10,18 @@ use Rattle.policy.specs.Record.{tables_of}
 use Rattle.policy.specs.Sound.{sound_of}
 use Rattle.policy.specs.Tables.{Tables}
 use Rattle.policy.proofs.Laws.Bools.{or_both}
-use Rattle.reach.specs.Answers.{can_reach_asked, can_reach_answer}
+use Rattle.reach.specs.Answers.{can_reach_answer}
 use Rattle.reach.proofs.Laws.Answers.{few, wide, among}
 use Rattle.reach.proofs.question.can_reach.Goals as goal
 
 pub returns-then-not-passes_test : goal.returns-then-not-passes_test
-unfolding can_reach_answer can_reach_asked
+unfolding can_reach_answer
 returns-then-not-passes_test c = rw (sym c.passes_test.ensures ∙ c.if-not-passes_test.true)
 
 pub returns-then-segments-from : goal.returns-then-segments-from
-unfolding can_reach_answer can_reach_asked
+unfolding can_reach_answer
 returns-then-segments-from c =
-    let sound = c in
-    rw (sym sound.passes_test.ensures ∙ sound.if-not-passes_test.false, c.if-segments-from.true)
+    rw (sym c.passes_test.ensures ∙ c.if-not-passes_test.false, ← c.from-segments.ensures, c.if-segments-from.true)
 
 -- Past both tests the record is sound and the numbers are segments.
 segments_are :
@@ -35,24 +34,24 @@ segments_are n from to asked t e h out is =
 
 pub overflow_cast-from : goal.overflow_cast-from
 overflow_cast-from c =
-    let s = segments_are c.args.policy.segments _ _ _ (tables_of c.args.policy) c.passes_test.ensures c.if-not-passes_test.false
-    c.if-segments-from.false refl in
+    let s = segments_are c.args.policy.now.segments _ _ _ (tables_of c.args.policy.now) c.passes_test.ensures c.if-not-passes_test.false
+    (rw c.from-segments.ensures at c.if-segments-from.false) refl in
     omega (arith, s)
 
 pub overflow_cast-to : goal.overflow_cast-to
 overflow_cast-to c =
-    let s = segments_are c.args.policy.segments _ _ _ (tables_of c.args.policy) c.passes_test.ensures c.if-not-passes_test.false
-    c.if-segments-from.false refl in
+    let s = segments_are c.args.policy.now.segments _ _ _ (tables_of c.args.policy.now) c.passes_test.ensures c.if-not-passes_test.false
+    (rw c.from-segments.ensures at c.if-segments-from.false) refl in
     omega (arith, s)
 
 pub leads-requires : goal.leads-requires
 leads-requires c =
-    let t = tables_of c.args.policy in
+    let t = tables_of c.args.policy.now in
     let sound = sym c.passes_test.ensures ∙ c.if-not-passes_test.false in
-    let s = segments_are c.args.policy.segments _ _ _ t c.passes_test.ensures c.if-not-passes_test.false c.if-segments-from.false refl in
+    let s = segments_are c.args.policy.now.segments _ _ _ t c.passes_test.ensures c.if-not-passes_test.false (rw c.from-segments.ensures at c.if-segments-from.false) refl in
     (s.0, s.1, s.2, wide single t sound, among single t sound)
 
 pub returns : goal.returns
-unfolding can_reach_answer can_reach_asked
+unfolding can_reach_answer
 returns c =
-    rw (sym c.passes_test.ensures ∙ c.if-not-passes_test.false, c.if-segments-from.false, c.leads.ensures)
+    rw (sym c.passes_test.ensures ∙ c.if-not-passes_test.false, rw c.from-segments.ensures at c.if-segments-from.false, c.leads.ensures)

@@ -17,13 +17,13 @@ pub add_slots-round-requires : goal.add_slots-round-requires
 add_slots-round-requires c =
     let e = c in
     let sound = sym c.passes_test.ensures ∙ c.if-not-passes_test.false in
-    (walkable single (tables_of e.args.policy) sound, refl, zero_at 8, zero_at 8)
+    (walkable single (tables_of e.args.policy.now) sound, refl, zero_at 8, zero_at 8)
 
 pub find_longest-requires : goal.find_longest-requires
 find_longest-requires c =
     let e = c in
     let sound = sym c.passes_test.ensures ∙ c.if-not-passes_test.false in
-    let t = tables_of e.args.policy in
+    let t = tables_of e.args.policy.now in
     let added = c.add_slots-round.ensures in (
       walkable single t sound,
       (list_own 8 (first_begin (view_of t)) (added (view_of t) (scheduled t)).2).0,
@@ -36,7 +36,7 @@ unfolding sheet_answer
 returns c =
     let e = c in
     let sound = sym c.passes_test.ensures ∙ c.if-not-passes_test.false in
-    let t = tables_of e.args.policy in
+    let t = tables_of e.args.policy.now in
     let added = c.add_slots-round.ensures (view_of t) (scheduled t) in
     let found = c.find_longest.ensures (view_of t) (scheduled t) in
     rw (sound, added.1, found, own_shown single t sound, silence_shown single t sound)
