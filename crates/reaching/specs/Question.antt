@@ -11,8 +11,7 @@ use Rattle.policy.specs.Refusals.{is_accepted}
 use Rattle.policy.specs.Read.{Answer, read_of}
 use Rattle.calls.specs.Under.{under}
 use Rattle.writing.specs.Row.{field}
-use Rattle.report.specs.Report.{refused_row}
-use Rattle.report.specs.Rows.{refused_with}
+use Rattle.report.specs.Report.{refused_row, refused_with}
 use Rattle.reach.specs.Answers.{can_reach_answer}
 use Rattle.reaching.specs.declared.words.Words.{Words}
 

@@ -1,83 +1,60 @@
 // The report: a line for each segment.
-ghost use Rattle.std.specs.Prelude.{◌+◌, ◌≤◌, ◌<◌, ◌≡◌, cond, [], get_or, length};
+ghost use Rattle.std.specs.Prelude.{◌+◌, ◌≤◌, ◌<◌, ◌≡◌, true, get_or, length};
 ghost use Rattle.std.proofs.lemmas.List.Edits.{sets};
 ghost use Rattle.bits.specs.Masks.{has};
 ghost use Rattle.policy.specs.Below.{list_below};
 ghost use Rattle.policy.specs.Limits.{single};
-ghost use Rattle.reach.specs.Rows.{those_below};
-ghost use Rattle.writing.specs.Row.{field, fields};
-ghost use Rattle.writing.specs.Written.{Written};
+ghost use Rattle.policy.specs.Record.{tables_of};
+ghost use Rattle.policy.specs.Sound.{sound_of};
+ghost use Rattle.policy.specs.Tables.{view_of};
+ghost use Rattle.reach.specs.Rows.{report_of, those_below};
+ghost use Rattle.writing.specs.Writer.{Adds, room};
 ghost use Rattle.reaching.specs.Report.{reach_report_of, segment_line, segment_lines};
 
 use bits::has_bit;
+use policy::Policy;
 use reach::reach;
 use report::put_refused;
-use writing::{put_byte, put_field, put_word};
+use writing::Writer;
 
-// A source, where the row has it.
-fn put_source(out: &mut [u8], at: usize, row: u32, s: u8) -> usize
-    requires { (s < 32) × (at + 3 ≤ length out.old) }
-    ensures { Written out.old at (cond (has row s) (field s) []) out.new result }
+// A segment's line: the word, its own number, and each source that the row has. At most 107 bytes.
+fn put_line(out: &mut Writer<'_>, t: u8, row: u32, segments: u8)
+    requires { (segments ≤ 32) × (t < 32) × (107 ≤ room out.old) }
+    ensures { Adds out.old (segment_line t (those_below segments (has row))) out.new }
 {
-    if has_bit(row as u64, s as u32) {
-        put_field(out, at, s as u32)
-    } else {
-        at
+    out.put_word(b"segment");
+    out.put_field(t as u32);
+    for s in 0..segments {
+        if has_bit(row as u64, s as u32) {
+            out.put_field(s as u32);
+        }
     }
+    out.put_byte(b'\n');
 }
 
-// The sources that a row has, at most 3 bytes each.
-fn put_sources(out: &mut [u8], at: usize, row: u32, segments: u8) -> usize
-    requires { (segments ≤ 32) × (at + 96 ≤ length out.old) }
-    ensures { Written out.old at (fields (those_below segments (has row))) out.new result }
+// The lines of a sound record, from the buffer's start on. The longest report has 32 lines of 107 bytes.
+fn put_lines(policy: &Policy, out: &mut [u8; 3424]) -> usize
+    requires { sound_of single (tables_of policy.now) ≡ true }
+    ensures { (result ≡ length (segment_lines 0 (report_of (view_of (tables_of policy.now)))))
+        × (result ≤ 3424)
+        × (out.new ≡ sets out.old 0 (segment_lines 0 (report_of (view_of (tables_of policy.now))))) }
 {
-    let mut next = at;
-    let mut s: u8 = 0;
-    while s < segments {
-        next = put_source(out, next, row, s);
-        s += 1;
+    let rows = reach(policy).unwrap();
+    let mut writer = Writer::new(out);
+    for t in 0..policy.segments {
+        put_line(&mut writer, t, rows[t as usize], policy.segments);
     }
-    next
+    writer.len()
 }
 
-// A segment's line, at most 107 bytes: the word, its own number, and its sources.
-fn put_line(out: &mut [u8], at: usize, t: u8, row: u32, segments: u8) -> usize
-    requires { (segments ≤ 32) × (t < 32) × (at + 107 ≤ length out.old) }
-    ensures { Written out.old at (segment_line t (those_below segments (has row))) out.new result }
-{
-    let word = put_word(out, at, b"segment");
-    let target = put_field(out, word, t as u32);
-    let next = put_sources(out, target, row, segments);
-    put_byte(out, next, b'\n')
-}
-
-fn put_lines(out: &mut [u8], rows: &[u32], segments: u8) -> usize
-    requires { (segments ≤ 32) × (segments ≤ length rows.now) × (3424 ≤ length out.old) }
-    ensures { Written out.old 0
-        (segment_lines 0 (list_below segments (λ t. those_below segments (has (get_or rows.now t 0)))))
-        out.new result }
-{
-    let mut next = 0;
-    let mut t: u8 = 0;
-    while t < segments {
-        next = put_line(out, next, t, rows[t as usize], segments);
-        t += 1;
-    }
-    next
-}
-
-// Writes the report on a text, whatever it is, from the buffer's start on, and answers how many bytes it has. The longest has 32 lines
-// of 107 bytes.
+// Writes the report on a text, whatever it is, from the buffer's start on, and answers how many bytes it has.
 pub fn report_on(text: &[u8], out: &mut [u8; 3424]) -> usize
     ensures { (result ≡ length (reach_report_of single text.now))
         × (result ≤ 3424)
         × (out.new ≡ sets out.old 0 (reach_report_of single text.now)) }
 {
     match reader::read(text) {
-        Ok(policy) => {
-            let rows = reach(&policy).unwrap();
-            put_lines(out, &rows, policy.segments)
-        }
+        Ok(policy) => put_lines(&policy, out),
         Err(refusal) => put_refused(refusal, out),
     }
 }

@@ -1,12 +1,12 @@
 // The words that a question is asked with.
 ghost use Rattle.std.specs.Prelude.{◌+◌, ◌≤◌, ◌≡◌, [], ◌∷◌, ◌++◌, length};
+ghost use Rattle.std.proofs.lemmas.List.Edits.{sets};
 ghost use Rattle.text.specs.Cut.{tab, line_end};
-ghost use Rattle.writing.specs.Written.{Written};
 ghost use Rattle.reaching.specs.Question.{words_of};
 
 use fields::{read_inner, read_last};
 use text::Cursor;
-use writing::{put_byte, put_word};
+use writing::Writer;
 
 // The two numbers of a question.
 #[derive(Clone, Copy, PartialEq, Eq, Debug)]
@@ -31,11 +31,14 @@ pub fn words_in(words: &[u8]) -> Option<Words>
 // The words of a question, as the fields of a line.
 pub fn put_words(out: &mut [u8], from: &[u8], to: &[u8]) -> usize
     requires { length from.now + length to.now + 2 ≤ length out.old }
-    ensures { Written out.old 0 (from.now ++ tab ∷ (to.now ++ line_end ∷ [])) out.new result
-        × (result ≤ length out.new) }
+    ensures { (result ≡ length (from.now ++ tab ∷ (to.now ++ line_end ∷ [])))
+        × (result ≤ length out.new)
+        × (out.new ≡ sets out.old 0 (from.now ++ tab ∷ (to.now ++ line_end ∷ []))) }
 {
-    let end = put_word(out, 0, from);
-    let second = put_byte(out, end, b'\t');
-    let last = put_word(out, second, to);
-    put_byte(out, last, b'\n')
+    let mut writer = Writer::new(out);
+    writer.put_word(from);
+    writer.put_byte(b'\t');
+    writer.put_word(to);
+    writer.put_byte(b'\n');
+    writer.len()
 }

@@ -31,12 +31,18 @@ unfoldable pub accepted_row : View → List ℕ
 accepted_row v = bytes_of "accepted" ++ numbers (v.partitions ∷ v.segments ∷ v.slots ∷ round_ticks v ∷ [])
 
 -- "A refused text gives one line: refused, number, line."
+abbrev pub refused_with : ℕ → ℕ → List ℕ
+refused_with number line = bytes_of "refused" ++ numbers (number ∷ line ∷ [])
+
 unfoldable pub refused_row : Verdict → List ℕ
-refused_row refusal = bytes_of "refused" ++ numbers (number_of refusal ∷ line_number_of refusal ∷ [])
+refused_row refusal = refused_with (number_of refusal) (line_number_of refusal)
+
+abbrev pub accepted_report : View → List ℕ
+accepted_report v = accepted_row v ++ segment_rows v v.segments
 
 -- Of a refusal and a view, whatever record gives it.
 unfoldable pub report_with : Verdict → View → List ℕ
-report_with refusal v = cond (is_accepted refusal) (accepted_row v ++ segment_rows v v.segments) (refused_row refusal)
+report_with refusal v = cond (is_accepted refusal) (accepted_report v) (refused_row refusal)
 
 abbrev pub report_of_reading : Answer → List ℕ
 report_of_reading a = report_with a.refusal (view_of a.tables)

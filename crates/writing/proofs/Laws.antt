@@ -1,3 +1,2 @@
-pub mod Written
+pub mod Writer
 pub mod Digits
-pub mod Row

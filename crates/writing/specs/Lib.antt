@@ -1,3 +1,3 @@
--- A row's numbers, and what writing bytes leaves.
+-- A row's numbers, and what a writer adds.
 pub mod Row
-pub mod Written
+pub mod Writer

@@ -1,5 +1,5 @@
 -- A row of a report: its word, and its numbers.
-use Rattle.std.specs.Prelude.{ℕ, ◌<◌, List, [], ◌∷◌, ◌++◌}
+use Rattle.std.specs.Prelude.{ℕ, ◌<◌, List, [], ◌∷◌, ◌++◌, flat_map}
 use Rattle.text.specs.Cut.{tab, line_end}
 use Rattle.printer.specs.Decimal.{digits}
 
@@ -9,13 +9,11 @@ field n = tab ∷ digits n
 
 -- Numbers, each after a tab.
 abbrev pub fields : List ℕ → List ℕ
-fields [] = []
-fields (n ∷ ns) = field n ++ fields ns
+fields ns = flat_map field ns
 
 -- The numbers of a row, each after a tab, and the line's end.
 abbrev pub numbers : List ℕ → List ℕ
-numbers [] = line_end ∷ []
-numbers (n ∷ ns) = field n ++ numbers ns
+numbers ns = fields ns ++ line_end ∷ []
 
 -- Numbers of at most five digits.
 abbrev pub Short : List ℕ → Type 0

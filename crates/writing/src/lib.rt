@@ -1,6 +1,6 @@
 // Bytes, words, numbers and rows of numbers into a lent buffer, for every report.
 #![tactic(auto)]
 
-mod put;
+mod writer;
 
-pub use put::{put_byte, put_field, put_row, put_word};
+pub use writer::Writer;

@@ -19,8 +19,7 @@ use Rattle.policy.specs.Tables.{Tables, view_of}
 use Rattle.policy.proofs.Lawful.{lawful}
 use Rattle.policy.proofs.Laws.Bools.{or_both}
 use Rattle.calls.specs.Under.{under}
-use Rattle.report.specs.Report.{refused_row}
-use Rattle.report.specs.Rows.{refused_with}
+use Rattle.report.specs.Report.{refused_row, refused_with}
 use Rattle.report.proofs.Laws.Rows.{refused_length}
 use Rattle.reach.specs.Via.{reaches}
 use Rattle.reach.specs.Answers.{can_reach_answer}

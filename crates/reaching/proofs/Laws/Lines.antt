@@ -4,19 +4,14 @@ use mathlib.Core.Path.{◌≡◌, refl, ap, ◌∙◌}
 use mathlib.Core.Bool.{Bool, true, false, cond}
 use mathlib.Core.List.{List, [], ◌∷◌, ◌++◌, append-nil, append_assoc}
 use native.Mathlib.Nat.{zero-add, add-zero, add-suc, suc-add}
-use native.Mathlib.Numerals.{add-one}
 use native.Mathlib.Omega.{arith}
 use lib.ListN.{length, get_or, length-append}
+use Rattle.std.proofs.lemmas.Grind.{flat_map-append}
 use Rattle.bits.specs.Masks.{has}
-use Rattle.text.specs.Bytes.{bytes_of}
-use Rattle.text.specs.Cut.{line_end}
 use Rattle.policy.specs.Below.{list_below}
 use Rattle.policy.proofs.Laws.Lists.{list_long}
 use Rattle.writing.specs.Row.{field, fields}
-use Rattle.writing.specs.Written.{Written}
 use Rattle.writing.proofs.Laws.Digits.{digits_width}
-use Rattle.writing.proofs.Laws.Row.{fields-append, numbers-fields}
-use Rattle.writing.proofs.Laws.Written.{written_then}
 use Rattle.reach.specs.Rows.{those_below}
 use Rattle.reaching.specs.Report.{segment_line, segment_lines}
 
@@ -26,19 +21,15 @@ field_short s l = omega (arith, digits_width 1 s (omega arith))
 
 -- One source more, where the row has it.
 module _ (test : ℕ → Bool) where
-  source_more : (n : ℕ) → fields (those_below (suc n) test) ≡ fields (those_below n test) ++ cond (test n) (field n) []
+  pub source_more : (n : ℕ) → fields (those_below (suc n) test) ≡ fields (those_below n test) ++ cond (test n) (field n) []
   unfolding those_below
   source_more n =
-      fields-append (those_below n test) (cond (test n) (n ∷ []) [])
-      ∙ ap (λ l. fields (those_below n test) ++ l) (go (test n))
+      rw flat_map-append
+      (ap (λ l. fields (those_below n test) ++ l) (go (test n)))
     where
       go : (b : Bool) → fields (cond b (n ∷ []) []) ≡ cond b (field n) []
       go true = append-nil (field n)
       go false = refl
-
-  pub sources_more : {l m r : List ℕ} {at p q : ℕ} (n : ℕ) → Written l at (fields (those_below n test)) m p →
-      Written m p (cond (test n) (field n) []) r q → Written l at (fields (those_below (n + 1) test)) r q
-  sources_more n first second = rw (add-one, source_more n) (written_then first second)
 
   pub sources_short : (n : ℕ) → n ≤ 32 → length (fields (those_below n test)) ≤ 3 * n
   unfolding those_below
@@ -50,13 +41,9 @@ module _ (test : ℕ → Bool) where
       go true h = omega (arith, field_short n (omega arith))
       go false h = omega arith
 
--- A segment's line by its parts.
-pub line_parts : (t : ℕ) (row : List ℕ) → segment_line t row ≡ ((bytes_of "segment" ++ field t) ++ fields row) ++ line_end ∷ []
-unfolding segment_line
-line_parts t row = rw (numbers-fields row, append_assoc, append_assoc)
-
 line_short : (t : ℕ) (row : List ℕ) → t < 32 → length (fields row) ≤ 96 → length (segment_line t row) ≤ 107
-line_short t row l h = rw (line_parts t row, length-append, length-append) (omega (arith, field_short t l))
+unfolding segment_line
+line_short t row l h = simp length-append (omega (arith, field_short t l))
 
 -- One line more.
 lines_append : (t : ℕ) (a b : List (List ℕ)) → segment_lines t (a ++ b) ≡ segment_lines t a ++ segment_lines (t + length a) b
@@ -65,13 +52,9 @@ lines_append t [] b = rw add-zero
 lines_append t (row ∷ a) b = rw (lines_append (suc t) a b, append_assoc, add-suc, suc-add)
 
 module _ (row : ℕ → List ℕ) where
-  line_more : (n : ℕ) → segment_lines 0 (list_below (suc n) row) ≡ segment_lines 0 (list_below n row) ++ segment_line n (row n)
+  pub line_more : (n : ℕ) → segment_lines 0 (list_below (suc n) row) ≡ segment_lines 0 (list_below n row) ++ segment_line n (row n)
   unfolding list_below segment_lines
   line_more n = lines_append 0 (list_below n row) (row n ∷ []) ∙ rw (zero-add, list_long row n, append-nil)
-
-  pub lines_more : {l m r : List ℕ} {p q : ℕ} (n : ℕ) → Written l 0 (segment_lines 0 (list_below n row)) m p →
-      Written m p (segment_line n (row n)) r q → Written l 0 (segment_lines 0 (list_below (n + 1) row)) r q
-  lines_more n first second = rw (add-one, line_more n) (written_then first second)
 
   lines_short : (n : ℕ) → ((t : ℕ) → t < n → length (segment_line t (row t)) ≤ 107) → length (segment_lines 0 (list_below n row)) ≤ 107 * n
   unfolding list_below segment_lines

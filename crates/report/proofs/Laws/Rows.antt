@@ -1,25 +1,28 @@
--- How long the rows are, by the widths of their numbers, and how the report is made of them.
-use Prim.Native.Nat.{ℕ, zero, suc, ◌+◌, ◌*◌, ◌<◌, ◌≤◌}
-use mathlib.Core.Path.{◌≡◌, refl}
-use mathlib.Core.List.{List}
-use native.Mathlib.Numerals.{add-one}
+-- How long the rows are, by the widths of their numbers.
+use Prim.Native.Nat.{ℕ, zero, suc, ◌*◌, ◌<◌, ◌≤◌}
+use mathlib.Core.Bool.{Bool}
 use native.Mathlib.Omega.{arith}
+use mathlib.Core.List.{[], ◌∷◌, ◌++◌}
 use lib.ListN.{length, length-append}
+use lib.Pow.{pow_mono}
+use Rattle.bits.specs.Masks.{mask_of}
+use Rattle.bits.proofs.Laws.Masks.{mask_under}
+use Rattle.text.specs.Bytes.{bytes_of}
 use Rattle.std.specs.Prelude.{Ok, Err}
 use Rattle.policy.specs.declared.record.Refusal.TheVariants.{TooLong, Malformed, OutOfOrder, OutOfRange, Clash, Incomplete, CodeUnreadable, FlowMissing, StraySource}
 use Rattle.policy.specs.View.{View}
+use Rattle.policy.specs.Access.{readable, writable}
 use Rattle.policy.specs.Schedule.{round_ticks}
-use Rattle.policy.specs.Tables.{Tables, view_of}
 use Rattle.policy.specs.Refusals.{Verdict, number_of}
 use Rattle.policy.proofs.Laws.Sums.{sum_most}
-use Rattle.report.specs.Report.{accepted_row, segment_row, segment_rows}
+use Rattle.report.specs.Report.{accepted_row, read_mask, write_mask, segment_row, segment_rows, accepted_report, refused_with}
 use Rattle.report.specs.Reportable.{Countable}
-use Rattle.report.specs.Rows.{segment_with, rows_in, refused_with}
-use Rattle.report.specs.Masks.{mask_in}
-use Rattle.writing.specs.Written.{Written}
+use Rattle.writing.specs.Row.{numbers}
 use Rattle.writing.proofs.Laws.Digits.{digits_width}
-use Rattle.report.proofs.Laws.Masks.{mask_small}
-use Rattle.writing.proofs.Laws.Written.{written_then}
+
+-- A mask of at most 8 partitions has at most three digits.
+pub mask_small : (test : ℕ → Bool) (n : ℕ) → n ≤ 8 → mask_of n test < 256
+mask_small test n h = omega (arith, mask_under test n, pow_mono {i = n} {j = 8} h)
 
 pub round_small : (v : View) → Countable v → round_ticks v < 100000
 round_small v r = omega (arith, sum_most v.ticks v.slots r.ticks_most)
@@ -36,43 +39,32 @@ accepted_length v r =
       digits_width 4 (round_ticks v) (round_small v r),
     ))
 
-pub segment_length : (s reads writes : ℕ) → s < 100 → reads < 256 → writes < 256 → length (segment_with s reads writes) ≤ 19
+pub segment_length : (s reads writes : ℕ) → s < 100 → reads < 256 → writes < 256 →
+    length (bytes_of "segment" ++ numbers (s ∷ reads ∷ writes ∷ [])) ≤ 19
 segment_length s reads writes a b d =
     simp length-append
-    (omega
-    (arith, digits_width 1 s a, digits_width 2 reads (omega arith), digits_width 2 writes (omega arith)))
+    (omega (arith, digits_width 1 s a, digits_width 2 reads (omega arith), digits_width 2 writes (omega arith)))
 
-pub refused_length : (number line : ℕ) → number < 100 → line < 100000 → length (refused_with number line) ≤ 17
-refused_length number line a b = simp length-append (omega (arith, digits_width 1 number a, digits_width 4 line b))
-
--- One more row.
-pub rows_more : {l m n : List ℕ} {at next q : ℕ} (save reads writes : List ℕ) (partitions s a b : ℕ) →
-    a ≡ mask_in save reads partitions s →
-    b ≡ mask_in save writes partitions s →
-    Written l at (rows_in save reads writes partitions s) m next →
-    Written m next (segment_with s a b) n q →
-    Written l at (rows_in save reads writes partitions (s + 1)) n q
-unfolding rows_in
-rows_more save reads writes partitions s a b e f first second = rw (add-one, ← e, ← f) (written_then first second)
-
-pub rows_length : (save reads writes : List ℕ) (partitions n : ℕ) → partitions ≤ 8 → n ≤ 100 →
-    length (rows_in save reads writes partitions n) ≤ 19 * n
-unfolding rows_in
-rows_length save reads writes partitions zero few h = omega arith
-rows_length save reads writes partitions (suc n) few h =
+pub segments_length : (v : View) → v.partitions ≤ 8 → (n : ℕ) → n ≤ 100 → length (segment_rows v n) ≤ 19 * n
+unfolding segment_rows segment_row
+segments_length v few zero h = omega arith
+segments_length v few (suc n) h =
     rw length-append
     (omega (
       arith,
-      rows_length save reads writes partitions n few (omega arith),
-      segment_length n _ _ h (mask_small save reads partitions n few) (mask_small save writes partitions n few),
+      segments_length v few n (omega arith),
+      segment_length n (read_mask v n) (write_mask v n) h (mask_small (λ p. readable v p n) v.partitions few)
+          (mask_small (λ p. writable v p n) v.partitions few),
     ))
 
--- The rows by the record's lists are those of its view.
-pub rows_same : (t : Tables) (n : ℕ) →
-    rows_in t.partitions.save t.rights.reads t.rights.writes t.partitions.count n ≡ segment_rows (view_of t) n
-unfolding rows_in segment_rows segment_row mask_in
-rows_same t zero = refl
-rows_same t (suc n) = rw (rows_same t n)
+-- An accepted text's report fits its buffer.
+pub accepted_fits : (v : View) → Countable v → length (accepted_report v) ≤ 640
+accepted_fits v k =
+    rw length-append
+    (omega (arith, accepted_length v k, k.few_segments, segments_length v k.few_partitions v.segments (omega (arith, k.few_segments))))
+
+pub refused_length : (number line : ℕ) → number < 100 → line < 100000 → length (refused_with number line) ≤ 17
+refused_length number line a b = simp length-append (omega (arith, digits_width 1 number a, digits_width 4 line b))
 
 pub number_small : (v : Verdict) → number_of v < 100
 number_small (Ok accepted) = omega arith

@@ -1,15 +1,13 @@
 -- The sheet's lines as the loop writes them, and how long they are; what the sheet of a text is made of.
-use Prim.Native.Nat.{ℕ, zero, suc, ◌+◌, ◌*◌, ◌<◌, ◌≤◌}
-use mathlib.Core.Path.{◌≡◌, ap, ◌∙◌, fun_ext}
+use Prim.Native.Nat.{ℕ, zero, suc, ◌*◌, ◌<◌, ◌≤◌}
+use mathlib.Core.Path.{◌≡◌, ap, ◌∙◌}
 use mathlib.Core.Bool.{true, false}
 use mathlib.Core.List.{List}
-use native.Mathlib.Numerals.{add-one}
 use native.Mathlib.Omega.{arith}
 use lib.ListN.{get_or, length, length-append}
 use Rattle.std.specs.Prelude.{Result, Ok}
 use Rattle.policy.specs.declared.record.NoAnswer.{NoAnswer}
 use Rattle.policy.specs.Limits.{single}
-use Rattle.policy.specs.View.{View}
 use Rattle.policy.specs.Tables.{Tables, view_of}
 use Rattle.policy.specs.Refusals.{is_accepted}
 use Rattle.policy.specs.Read.{Answer, read_of}
@@ -21,10 +19,8 @@ use Rattle.policy.proofs.Laws.Sums.{sum_most}
 use Rattle.calls.specs.Under.{under}
 use Rattle.sheet.specs.declared.Sheet.{Sheet}
 use Rattle.sheet.specs.Answer.{sheet_for, sheet_answer}
-use Rattle.sheet.proofs.Laws.Answer.{sheet_ok, own_at, silence_at, ticks_long, silence_long}
-use Rattle.writing.specs.Written.{Written}
+use Rattle.sheet.proofs.Laws.Answer.{sheet_ok, own_at, silence_at}
 use Rattle.writing.proofs.Laws.Digits.{digits_width}
-use Rattle.writing.proofs.Laws.Written.{written_then}
 use Rattle.report.specs.Report.{refused_row}
 use Rattle.sheeting.specs.Lines.{partition_line, partition_lines, round_line, sheet_of, sheet_lines, sheet_report_of}
 
@@ -41,11 +37,6 @@ module _ (ticks silent : ℕ → ℕ) where
   lines_short a b zero l = omega arith
   lines_short a b (suc n) l =
       rw length-append (omega (arith, lines_short a b n (omega arith), line_short n (ticks n) (silent n) (omega arith) (a n) (b n)))
-
-  pub lines_more : {l m r : List ℕ} {q s : ℕ} (n : ℕ) → Written l 0 (partition_lines ticks silent n) m q →
-      Written m q (partition_line n (ticks n) (silent n)) r s → Written l 0 (partition_lines ticks silent (n + 1)) r s
-  unfolding partition_lines
-  lines_more n first second = rw add-one (written_then first second)
 
 -- The numbers of a sound record have five digits at most.
 module _ (t : Tables) (h : sound_of single t ≡ true) where
@@ -66,39 +57,19 @@ module _ (t : Tables) (h : sound_of single t ≡ true) where
       rw length-append
       (omega (arith, few, lines_short (own_ticks (view_of t)) (silence (view_of t)) own_small silence_small t.partitions.count (omega (arith, few)), round_short (round_ticks (view_of t)) round_small))
 
+  pub rows_short : (n : ℕ) → n ≤ 8 → length (partition_lines (own_ticks (view_of t)) (silence (view_of t)) n) ≤ 24 * n
+  rows_short n l = lines_short (own_ticks (view_of t)) (silence (view_of t)) own_small silence_small n (omega arith)
+
   pub sheet_is : {a : Result Sheet NoAnswer} {s : Sheet} → a ≡ sheet_answer (under single t) → a ≡ Ok s → s ≡ sheet_for single (view_of t)
   sheet_is e f = cc (sheet_ok single t h)
 
-  -- The numbers that the loop is lent.
-  module _ {s : Sheet} (e : s ≡ sheet_for single (view_of t)) where
-    abbrev pub ticks_in : ℕ → ℕ
-    ticks_in p = get_or s.ticks p 0
+  -- The numbers that the sheet has of a partition.
+  module _ {s : Sheet} (e : s ≡ sheet_for single (view_of t)) (p : ℕ) where
+    pub ticks_are : get_or s.ticks p 0 ≡ own_ticks (view_of t) p
+    ticks_are = ap (λ a. get_or a.ticks p 0) e ∙ own_at single t h p
 
-    abbrev pub silence_in : ℕ → ℕ
-    silence_in p = get_or s.silence p 0
-
-    pub ticks_are : (p : ℕ) → ticks_in p ≡ own_ticks (view_of t) p
-    ticks_are p = ap (λ a. get_or a.ticks p 0) e ∙ own_at single t h p
-
-    pub silence_are : (p : ℕ) → silence_in p ≡ silence (view_of t) p
-    silence_are p = ap (λ a. get_or a.silence p 0) e ∙ silence_at single t h p
-
-    pub ticks_there : t.partitions.count ≤ length s.ticks
-    ticks_there = omega (arith, (lawful single t h).few_partitions, ap (λ a. length a.ticks) e ∙ ticks_long single t h)
-
-    pub silence_there : t.partitions.count ≤ length s.silence
-    silence_there = omega (arith, (lawful single t h).few_partitions, ap (λ a. length a.silence) e ∙ silence_long single t h)
-
-    pub ticks_small : (p : ℕ) → ticks_in p < 100000
-    ticks_small p = rw (ticks_are p) (own_small p)
-
-    pub still_small : (p : ℕ) → silence_in p < 100000
-    still_small p = rw (silence_are p) (silence_small p)
-
-    pub rows_short : length (partition_lines ticks_in silence_in t.partitions.count) ≤ 192
-    rows_short =
-        let few = (lawful single t h).few_partitions in
-        omega (arith, few, lines_short ticks_in silence_in ticks_small still_small t.partitions.count (omega (arith, few)))
+    pub silence_are : get_or s.silence p 0 ≡ silence (view_of t) p
+    silence_are = ap (λ a. get_or a.silence p 0) e ∙ silence_at single t h p
 
 module _ (text : List ℕ) {a : Answer} (read : a ≡ read_of single text) where
   pub sheet_refused : is_accepted a.refusal ≡ false → sheet_report_of single text ≡ refused_row a.refusal
@@ -108,9 +79,3 @@ module _ (text : List ℕ) {a : Answer} (read : a ≡ read_of single text) where
   pub sheet_accepted : is_accepted a.refusal ≡ true → sheet_report_of single text ≡ sheet_of (view_of a.tables)
   unfolding sheet_report_of sheet_lines
   sheet_accepted h = rw (← read, h)
-
--- The lines of numbers that are a policy's.
-pub sheet_written : (v : View) (ticks silent : ℕ → ℕ) {l m r : List ℕ} {q n round : ℕ} →
-    ((p : ℕ) → ticks p ≡ own_ticks v p) → ((p : ℕ) → silent p ≡ silence v p) → round ≡ round_ticks v →
-    Written l 0 (partition_lines ticks silent v.partitions) m q → Written m q (round_line round) r n → Written l 0 (sheet_of v) r n
-sheet_written v ticks silent a b e first second = rw (← fun_ext a, ← fun_ext b, ← e) (written_then first second)

@@ -1,5 +1,5 @@
 -- The answer about two segments, or a refusal's row.
-use native.Mathlib.Omega.{arith}
+use Rattle.std.proofs.Common.{arith}
 use Rattle.policy.specs.Limits.{single}
 use Rattle.policy.specs.Record.{tables_of}
 use Rattle.report.proofs.Laws.Rows.{refused_length}
@@ -10,7 +10,7 @@ use Rattle.reaching.proofs.answer.put_answer.Goals as goal
 pub put_reach-requires : goal.put_reach-requires
 put_reach-requires c =
     let inside = asked_inside single (tables_of c.args.policy.now) c.args.from c.args.to c.in-Ok.ensures in
-    (inside.0, inside.1, omega arith)
+    (inside.0, inside.1, c.requires)
 
 pub returns-in-Ok : goal.returns-in-Ok
 unfolding answer_line

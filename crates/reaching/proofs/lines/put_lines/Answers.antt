@@ -1,35 +1,46 @@
--- Each turn writes one line more, of at most 107 bytes.
-use mathlib.Core.Path.{◌≡◌, refl, ◌∙◌}
-use native.Mathlib.Omega.{arith}
+-- Each turn adds one line, of at most 107 bytes; the lines of the masks are the report's.
+use Rattle.std.proofs.Common.{◌≡◌, length, replicate, ap, sym, ◌∙◌, arith, add-one}
+use Rattle.std.specs.Result.{result_unwrap_or}
 use Rattle.policy.specs.Below.{list_below}
-use Rattle.writing.proofs.Laws.Written.{written_none, written_long}
+use Rattle.policy.specs.Limits.{single}
+use Rattle.policy.specs.Record.{tables_of}
+use Rattle.policy.proofs.Lawful.{lawful}
+use Rattle.calls.specs.Under.{under}
+use Rattle.reach.specs.Answers.{rows_shown}
+use Rattle.reach.proofs.Agrees.{reach_ok, masks_report}
 use Rattle.reaching.specs.Report.{segment_lines}
-use Rattle.reaching.proofs.Laws.Lines.{bit_row, lines_more, rows_short}
+use Rattle.writing.proofs.Laws.Writer.{adds_none, adds_then, adds_whole, room_left}
+use Rattle.reaching.proofs.Laws.Lines.{line_more, rows_short}
 use Rattle.reaching.proofs.lines.put_lines.Goals as goal
+
+pub unwrap-rows-requires : goal.unwrap-rows-requires
+unwrap-rows-requires c = rw (c.reach.ensures, reach_ok single (tables_of c.args.policy.now) c.requires)
 
 pub loop-t-init : goal.loop-t-init
 unfolding list_below segment_lines
-loop-t-init c = (omega arith, refl, written_none _ _)
+loop-t-init c = adds_none _
 
-pub put_line-next-requires : goal.put_line-next-requires
-put_line-next-requires c =
-    let l = c in
-    let s = l in
-    let there = c.loop-t-test.true in
-    let most = rows_short s.args.rows.now s.args.segments l.loop-t.t s.requires.0 (omega (arith, there, s.requires.0)) in
-    (s.requires.0, omega (arith, there, s.requires.0), omega (arith, there, most, s.requires.0, s.requires.2, l.loop-t.invariant.1, l.loop-t.invariant.2.place))
+pub bounds-rows-t : goal.bounds-rows-t
+bounds-rows-t c = omega (arith, (lawful single _ c.requires).few_segments)
+
+pub put_line-requires : goal.put_line-requires
+put_line-requires c =
+    let few = (lawful single _ c.requires).few_segments in
+    let most = rows_short c.unwrap-rows.result c.args.policy.now.segments c.loop-t.t few (omega arith) in
+    (few, omega arith, omega (arith, ap length c.new-writer.ensures.nothing_written.1, room_left c.loop-t.invariant))
 
 pub loop-t-preserved : goal.loop-t-preserved
-loop-t-preserved c =
-    let w = c in
-    let l = w in
-    let a = l.args in (
-      omega arith,
-      written_long w.put_line-next.ensures ∙ l.loop-t.invariant.1,
-      lines_more (bit_row a.rows.now a.segments) l.loop-t.t l.loop-t.invariant.2 w.put_line-next.ensures,
-    )
+loop-t-preserved c = rw (add-one, line_more) (adds_then c.loop-t.invariant c.put_line.ensures)
 
 pub returns : goal.returns
 returns c =
-    let e : c.loop-t.t ≡ c.args.segments = omega arith in
-    rw e at c.loop-t.invariant.2
+    let t = tables_of c.args.policy.now in
+    let n = c.args.policy.now.segments in
+    let end : c.loop-t.t ≡ n = omega arith in
+    let few = (lawful single t c.requires).few_segments in
+    let short = rows_short c.unwrap-rows.result n n few few in
+    let all = adds_whole c.new-writer.ensures.nothing_written (rw end at c.loop-t.invariant) (omega arith) in
+    let rows : rows_shown (under single t) ≡ c.unwrap-rows.result =
+    ap (λ a. result_unwrap_or a (replicate 32 0)) (sym c.reach.ensures ∙ c.unwrap-rows.ensures) in
+    rw (← masks_report single t c.requires, rows)
+    (c.len.ensures ∙ ap length all.0, omega (arith, c.len.ensures ∙ ap length all.0), all.1)

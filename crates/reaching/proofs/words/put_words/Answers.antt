@@ -1,17 +1,19 @@
--- One part after another.
-use native.Mathlib.Omega.{arith}
+-- One part after another, which the buffer has room for.
+use Rattle.std.proofs.Common.{length, ap, ◌∙◌, arith, rules}
 use lib.ListN.{length-append}
-use Rattle.writing.proofs.Laws.Written.{written_then, written_long}
+use Rattle.writing.proofs.Laws.Writer.{adds_then, adds_whole, room_left}
 use Rattle.reaching.proofs.words.put_words.Goals as goal
+
+pub put_word-requires-2 : goal.put_word-requires-2
+put_word-requires-2 c =
+    omega (arith, ap length c.new-writer.ensures.nothing_written.1, room_left c.put_word.ensures, room_left c.put_byte.ensures)
+
+pub put_byte-requires-2 : goal.put_byte-requires-2
+put_byte-requires-2 c =
+    omega (arith, ap length c.new-writer.ensures.nothing_written.1, room_left c.put_word.ensures, room_left c.put_byte.ensures, room_left c.put_word-2.ensures)
 
 pub returns : goal.returns
 returns c =
-    let w = c in
-    let t = w in
-    let v = t in
-    let u = v in
-    let all =
-    written_then u.put_word-end.ensures
-    (written_then v.put_byte-second.ensures (written_then t.put_word-last.ensures w.put_byte.ensures)) in
-    let room = u.requires in
-    (all, omega (arith, simp length-append at all.place, written_long all, room))
+    let line = adds_then c.put_word.ensures (adds_then c.put_byte.ensures (adds_then c.put_word-2.ensures c.put_byte-2.ensures)) in
+    let all = adds_whole c.new-writer.ensures.nothing_written line (simp length-append (omega arith)) in
+    (c.len.ensures ∙ ap length all.0, search rules, search (rules, all.1))

@@ -1,20 +1,14 @@
--- The row of the record's counts, and of the round that was summed.
-use native.Mathlib.Omega.{arith}
-use Rattle.policy.specs.Tables.{view_of}
-use Rattle.policy.specs.Record.{tables_of}
-use Rattle.report.specs.Report.{accepted_row}
-use Rattle.report.proofs.Laws.Rows.{round_small, accepted_length}
+-- The first row, and then those of the segments.
+use Rattle.std.proofs.Common.{length, ap, ◌∙◌, arith}
+use Rattle.writing.proofs.Laws.Writer.{adds_then, adds_whole, room_left}
+use Rattle.report.proofs.Laws.Rows.{accepted_length, accepted_fits}
 use Rattle.report.proofs.write.put_accepted.Goals as goal
 
-pub put_row-requires : goal.put_row-requires
-unfolding accepted_row
-put_row-requires c =
-    let start = c in
-    let v = view_of (tables_of start.args.policy) in
-    let k = start.requires in
-    rw c.round_ticks-ticks.ensures
-    ((omega (arith, k.few_partitions), (omega (arith, k.few_segments), (omega (arith, k.few_slots), (round_small v k, tt)))), omega (arith, accepted_length v k))
+pub put_segments-requires : goal.put_segments-requires
+put_segments-requires c = (c.requires, omega (arith, room_left c.put_counts.ensures, accepted_length _ c.requires, ap length c.new-writer.ensures.nothing_written.1))
 
 pub returns : goal.returns
-unfolding accepted_row
-returns c = rw c.round_ticks-ticks.ensures at c.put_row.ensures
+returns c =
+    let rows = adds_then c.put_counts.ensures c.put_segments.ensures in
+    let all = adds_whole c.new-writer.ensures.nothing_written rows (omega (arith, accepted_fits _ c.requires)) in
+    (c.len.ensures ∙ ap length all.0, all.1)
