@@ -17,7 +17,7 @@ pub fn has_bit(mask: u64, s: u32) -> bool
     (mask >> s) % 2 == 1
 }
 
-// A mask of 32 bits with one bit more.
+// A mask of 32 bits with one bit more: the record's masks alone grow. Over every width it would be a trait with laws, for one line.
 pub fn with_low_bit(mask: u32, s: u32) -> u32
     requires { s < 32 }
     ensures { result ≡ with_bit mask s }

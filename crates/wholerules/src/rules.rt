@@ -44,8 +44,8 @@ pub fn lent_refusal(parts: &Parts) -> Result<(), Refusal>
     Ok(())
 }
 
-// The same of a record, whose masks of 32 bits are the same numbers as masks of 64. In each of its two callers, since a
-// call costs as much as widening.
+// The same of a record, whose masks of 32 bits are the same numbers as masks of 64. In place in both callers, since a call
+// costs as much as widening. `narrow` hands on from `widen` what the types of the masks say.
 #[inline(always)]
 pub fn record_refusal(policy: &Policy) -> Result<(), Refusal>
     requires { (policy.now.segments ≤ 32) × (policy.now.partitions ≤ 8) }

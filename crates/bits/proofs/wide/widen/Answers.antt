@@ -11,6 +11,6 @@ returns-clause-same g c = ext_get_or 0 _ _ c.loop-i.invariant.long (λ j k. c.lo
 pub returns-clause-narrow : goal.returns-clause-narrow
 returns-clause-narrow g c i =
     elim (dec_lt i c.loop-i.i) [
-      yes l ↦ c.loop-i.invariant.narrow i l
+      | yes l ↦ c.loop-i.invariant.narrow i l
       | no l ↦ rw (get_or-eq_default c.args.masks.now 0 {n = i} (omega arith)) (omega arith)
     ]
