@@ -2,40 +2,34 @@
 // A case is a name filled up with spaces to 40 bytes, a length in 7 digits, a line end, and then the text.
 #![tactic(auto)]
 
-use script::{field, load, number_in, part, past, room, show, show_number, word};
-use std::io;
+use script::Lines;
+use std::{fs, io};
 
-// Reads the case at a place, and answers where the next one begins.
-fn read_case(rt: &impl Print, file: &[u8], at: usize) -> io::Result<usize> {
-    let header = field(file, at, b'\n');
-    let from = past(file, at, b'\n');
-    let to = from + number_in(header, 1) as usize;
-    let (number, line) = match reader::read(part(file, from, to)) {
+// The number and the line that reading a text answers.
+fn answer_to(text: &[u8]) -> (u32, u32) {
+    match reader::read(text) {
         Ok(_) => (0, 0),
         Err(refusal) => (refusal.number(), refusal.line()),
-    };
-    show(rt, word(header, 0))?;
-    show_number(rt, b"\t", number)?;
-    show_number(rt, b"\t", line)?;
-    show(rt, b"\n")?;
-    Ok(to)
+    }
+}
+
+// A case's name, and the length of its text.
+fn parse_header(header: &str) -> Option<(&str, usize)> {
+    let (name, length) = header.split_once(' ')?;
+    Some((name, length.trim_start().parse().ok()?))
 }
 
 fn read_cases(rt: &impl Print, file: &[u8]) -> io::Result<()> {
-    let mut at = 0;
-    let mut left: u32 = 1000;
-    while 0 < left {
-        if file.len() <= at {
-            return Ok(());
-        }
-        at = read_case(rt, file, at)?;
-        left -= 1;
+    let mut lines = Lines { rest: file };
+    while let Some(header) = lines.next() {
+        let (name, length) = parse_header(header).ok_or(io::ErrorKind::InvalidData)?;
+        let (number, line) = answer_to(lines.bytes(length));
+        println!(rt; "{name}\t{number}\t{line}")?;
     }
     Ok(())
 }
 
 fn main(rt: HostRuntime) -> io::Result<()> {
-    let mut space = room();
-    let n = load(&rt, b"cases", &mut space)?;
-    read_cases(&rt, &space[..n])
+    let file = fs::read(&rt, "cases")?;
+    read_cases(&rt, &file)
 }

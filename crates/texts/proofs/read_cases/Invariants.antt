@@ -1,5 +1,6 @@
--- Each turn takes one case, of at most a thousand.
+-- Each turn takes a line, and the text after it.
+use Rattle.std.proofs.Common.{length}
 use Rattle.texts.proofs.read_cases.Given as goal
 
-abbrev pub decreases-loop-left : goal.decreases-loop-left
-decreases-loop-left g l = l.left
+abbrev pub decreases-loop-header : goal.decreases-loop-header
+decreases-loop-header g l = length l.lines.rest.now
