@@ -1,32 +1,41 @@
-// The policy record of a scenario: that of a text, with entries changed.
-use octets::entry_or;
+// Changes to the policy record of a scenario, which reading its text made.
 use policy::Policy;
-use script::number_in;
 
-// The record after a step: `change` names a field, an entry of it and the value.
-pub(crate) fn changed(policy: Policy, line: &[u8]) -> Policy {
-    let mut p = policy;
-    if entry_or(line, 0, 0) != b'c' {
-        return p;
+// A field of the record by its number in tests/scenarios.py, an entry of it, and the value that this gets.
+#[derive(Clone, Copy)]
+pub(crate) struct Change {
+    pub field: u8,
+    pub index: usize,
+    pub value: u32,
+}
+
+fn set<T: Copy>(entries: &mut [T], index: usize, value: T) {
+    if let Some(entry) = entries.get_mut(index) {
+        *entry = value;
     }
-    let i = number_in(line, 2) as usize;
-    let value = number_in(line, 3);
-    let byte = (value % 256) as u8;
-    let half = (value % 65536) as u16;
-    match number_in(line, 1) {
-        0 => p.segments = byte,
-        1 => p.partitions = byte,
-        2 => p.slots = byte,
-        3 => p.base[i % 32] = half,
-        4 => p.size[i % 32] = half,
-        5 => p.code[i % 8] = byte,
-        6 => p.save[i % 8] = byte,
-        7 => p.owner[i % 32] = byte,
-        8 => p.ticks[i % 32] = half,
-        9 => p.reads[i % 8] = value,
-        10 => p.writes[i % 8] = value,
-        11 => p.sources[i % 32] = value,
-        _ => p.unused = byte,
+}
+
+impl Change {
+    pub(crate) fn apply(&self, policy: &mut Policy) {
+        let index = self.index;
+        let value = self.value;
+        let byte = (value % 256) as u8;
+        let half = (value % 65536) as u16;
+        // The numbers stay: an enum of the record's fields would have each of them twice more.
+        match self.field {
+            0 => policy.segments = byte,
+            1 => policy.partitions = byte,
+            2 => policy.slots = byte,
+            3 => set(&mut policy.base, index, half),
+            4 => set(&mut policy.size, index, half),
+            5 => set(&mut policy.code, index, byte),
+            6 => set(&mut policy.save, index, byte),
+            7 => set(&mut policy.owner, index, byte),
+            8 => set(&mut policy.ticks, index, half),
+            9 => set(&mut policy.reads, index, value),
+            10 => set(&mut policy.writes, index, value),
+            11 => set(&mut policy.sources, index, value),
+            _ => policy.unused = byte,
+        }
     }
-    p
 }

@@ -1,5 +1,6 @@
--- Each turn takes one scenario, of at most a thousand.
+-- Each turn takes a scenario's lines.
+use Rattle.std.proofs.Common.{length}
 use Rattle.runs.proofs.play_all.Given as goal
 
-abbrev pub decreases-loop-left : goal.decreases-loop-left
-decreases-loop-left g l = l.left
+abbrev pub decreases-loop-header : goal.decreases-loop-header
+decreases-loop-header g l = length l.lines.rest.now
