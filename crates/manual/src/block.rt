@@ -1,112 +1,113 @@
 // A block of a manual, of the kind that its first line names.
-use crate::file::{Seen, show_verdict};
+use crate::answers::{Answer, read};
 use crate::program::try_lines;
-use crate::reading::check_policy;
-use script::{field, nth, part, past, same, show, show_number, word};
+use std::convert::AsSlice;
 use std::io;
 
-// Whether a block is the report on a text.
-fn is_report(text: &[u8], block: &[u8]) -> bool {
-    let mut out = [0u8; 640];
-    let n = checking::report_on(text, &mut out);
-    same(&out[..n], block)
+// A block's number in its manual and that of the line of its first fence, that line, the lines up to the next fence, and
+// whether that is a bare one.
+#[derive(Clone, Copy)]
+pub(crate) struct Block<'a, 'p> {
+    pub number: u32,
+    pub line: usize,
+    pub fence: &'p str,
+    pub lines: &'a [&'p str],
+    pub is_closed: bool,
 }
 
-// Whether a block is what policyreach writes of a text.
-fn is_reach_report(text: &[u8], block: &[u8]) -> bool {
-    let mut out = [0u8; 3424];
-    let n = reaching::report_on(text, &mut out);
-    same(&out[..n], block)
+// Whether a text is what a report writes into a buffer.
+fn is_written<B: AsSlice<u8> + Drop, F: FnOnce(&mut B) -> usize>(
+    text: &str,
+    mut out: B,
+    report: F,
+) -> bool
+    requires { F.IsAlwaysCallable report }
+{
+    let n = report(&mut out);
+    out.as_slice()
+        .get(..n)
+        .is_some_and(|written| written == text.as_bytes())
 }
 
-// Whether a block is what policyreach answers to words about a text.
-fn is_answer(text: &[u8], words: &[u8], block: &[u8]) -> bool {
-    let mut out = [0u8; 3424];
-    let n = reaching::answer_on(text, words, &mut out);
-    same(&out[..n], block)
+// The text of a policy block, how often it is repeated, and what reading it must answer: the block's first line has the
+// number and the line, after `cut` where the text's last line end is left off, and after `times` and a count.
+fn parse_policy<'a>(words: &[&str], text: &'a str) -> Option<(&'a str, usize, Answer)> {
+    let (text, times, number, line) = match *words {
+        ["policy", number, line] => (text, 1, number, line),
+        ["policy", "cut", number, line] => (text.strip_suffix('\n')?, 1, number, line),
+        ["policy", "times", count, number, line] => (text, count.parse().ok()?, number, line),
+        _ => return None,
+    };
+    let answer = Answer {
+        number: number.parse().ok()?,
+        line: line.parse().ok()?,
+    };
+    Some((text, times, answer))
 }
 
-// A reach block: the report, or after two words on the block's first line the answer to what they ask.
-fn is_reach(text: &[u8], header: &[u8], block: &[u8]) -> bool {
-    if same(header, b"```reach") {
-        return is_reach_report(text, block);
-    }
-    let from = word(header, 1);
-    let to = word(header, 2);
-    if 16 < from.len() {
-        return false;
-    }
-    if 16 < to.len() {
-        return false;
-    }
-    if nth(header, 3, b' ') != header.len() {
-        return false;
-    }
-    let mut words = [0u8; 34];
-    let n = reaching::put_words(&mut words, from, to);
-    is_answer(text, &words[..n], block)
+// The line at which a block is wrong about the last accepted text, if it is.
+fn wrong_line<R: Print + AllocGlobal>(
+    rt: &R,
+    block: &Block,
+    words: &[&str],
+    base: &[&str],
+) -> io::Result<Option<usize>> {
+    let alloc = rt.alloc();
+    let text = block.lines.concat(alloc)?;
+    let whole = base.concat(alloc)?;
+    let policy = whole.as_bytes();
+    let is_right = match *words {
+        ["report"] => is_written(&text, [0u8; 640], |out| checking::report_on(policy, out)),
+        ["reach"] => is_written(&text, [0u8; 3424], |out| reaching::report_on(policy, out)),
+        ["reach", from, to] => {
+            let asked = format!(in alloc; "{from}\t{to}\n")?;
+            is_written(
+                &text,
+                [0u8; 3424],
+                |out| reaching::answer_on(policy, asked.as_bytes(), out),
+            )
+        }
+        ["sheet"] => is_written(&text, [0u8; 204], |out| sheeting::sheet_on(policy, out)),
+        ["lines"] | ["program"] => return try_lines(rt, base, block),
+        _ => false,
+    };
+    Ok((!is_right).then_some(block.line))
 }
 
-// Whether a block is what policysheet writes of a text.
-fn is_sheet(text: &[u8], block: &[u8]) -> bool {
-    let mut out = [0u8; 204];
-    let n = sheeting::sheet_on(text, &mut out);
-    same(&out[..n], block)
-}
-
-// A policy block. The last one that is accepted is what the lines after it are about.
-fn on_policy(
-    rt: &impl Print,
-    text: &[u8],
-    header: &[u8],
-    from: usize,
-    to: usize,
-    seen: Seen,
-) -> io::Result<Seen> {
-    let mut next = seen;
-    let verdict = check_policy(rt, header, part(text, from, to))?;
-    show_verdict(rt, verdict.right, seen.line)?;
-    if verdict.accepted {
-        next.from = from;
-        next.to = to;
+// Checks a block, and answers what the blocks after it are about: the lines of the last policy block that is accepted.
+pub(crate) fn check_block<'a, 'p, R: Print + AllocGlobal>(
+    rt: &R,
+    block: &Block<'a, 'p>,
+    base: &'a [&'p str],
+) -> io::Result<&'a [&'p str]> {
+    let alloc = rt.alloc();
+    let info = block.fence.trim_start_matches('`').trim_end_matches('\n');
+    let words: Vec<&str> = info.split(' ').collect(alloc)?;
+    let text = block.lines.concat(alloc)?;
+    let mut next = base;
+    print!(rt;
+        "{} {}: ",
+        words.first().copied().unwrap_or_default(),
+        block.number
+    )?;
+    let wrong = if !block.is_closed {
+        Some(block.line)
+    } else if let Some((text, times, expected)) = parse_policy(&words, &text) {
+        let (found, _) = read(text.repeat(alloc, times)?.as_bytes());
+        print!(rt;
+            "expected {} {}, found {} {}, ",
+            expected.number, expected.line, found.number, found.line
+        )?;
+        if found.number == 0 {
+            next = block.lines;
+        }
+        (found != expected).then_some(block.line)
+    } else {
+        wrong_line(rt, block, &words, base)?
+    };
+    match wrong {
+        None => println!(rt; "ok")?,
+        Some(line) => println!(rt; "WRONG at line {line}")?,
     }
     Ok(next)
-}
-
-// A block that ends at a place. Where the line that closes it is no bare fence, it is wrong.
-pub(crate) fn on_block(
-    rt: &impl Print,
-    text: &[u8],
-    to: usize,
-    closed: bool,
-    seen: Seen,
-) -> io::Result<Seen> {
-    let header = field(text, seen.at, b'\n');
-    let from = past(text, seen.at, b'\n');
-    let first = word(header, 0);
-    let base = part(text, seen.from, seen.to);
-    show(rt, part(first, 3, first.len()))?;
-    show_number(rt, b" ", seen.block)?;
-    show(rt, b": ")?;
-    if closed & same(first, b"```policy") {
-        return on_policy(rt, text, header, from, to, seen);
-    }
-    if closed & same(header, b"```report") {
-        show_verdict(rt, is_report(base, part(text, from, to)), seen.line)?;
-        return Ok(seen);
-    }
-    if closed & same(first, b"```reach") {
-        show_verdict(rt, is_reach(base, header, part(text, from, to)), seen.line)?;
-        return Ok(seen);
-    }
-    if closed & same(header, b"```sheet") {
-        show_verdict(rt, is_sheet(base, part(text, from, to)), seen.line)?;
-        return Ok(seen);
-    }
-    if closed & (same(header, b"```lines") | same(header, b"```program")) {
-        try_lines(rt, base, part(text, from, to), seen.line)?;
-        return Ok(seen);
-    }
-    show_verdict(rt, false, seen.line)?;
-    Ok(seen)
 }

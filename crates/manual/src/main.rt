@@ -3,16 +3,18 @@
 // ones.
 #![tactic(auto)]
 
+mod answers;
 mod block;
-mod file;
+mod page;
 mod program;
-mod reading;
 mod row;
+mod step;
 
 use std::io;
 
 fn main(rt: HostRuntime) -> io::Result<()> {
-    file::check_file(&rt, b"POLICY.md")?;
-    file::check_file(&rt, b"PROGRAMMING.md")?;
-    file::check_file(&rt, b"POLICIES.md")
+    for name in ["POLICY.md", "PROGRAMMING.md", "POLICIES.md"] {
+        page::check_page(&rt, name)?;
+    }
+    Ok(())
 }

@@ -1,158 +1,143 @@
 // A block of lines, obeyed one after another on a memory of zeros.
-use crate::file::show_verdict;
-use crate::row::{is_answered, is_changed, stripped};
-use calls::Refused;
+use crate::answers::{Answer, pend, read, run, start};
+use crate::block::Block;
+use crate::row::changed;
+use crate::step::{Check, Step};
 use machine::Place;
 use policy::{MEMORY, Policy};
-use script::{
-    NONE, append, bytes_of, field, nth, number_in, part, past, same, show, show_number, word,
-};
+use std::alloc::{AllocError, Global};
 use std::io;
 
-// What the lines so far have come to: the schedule's place, the number that the last call answered, how many lines were
-// checks, and whether all were right.
-#[derive(Clone, Copy)]
-pub struct Stand {
-    pub place: Place,
-    pub number: u32,
-    pub checks: u32,
-    pub right: bool,
+// What the lines so far have come to, under the policy of the text whose lines `base` has: the schedule's place, and the
+// number that the last call answered.
+#[derive(Drop)]
+struct Trial<'a> {
+    base: &'a [&'a str],
+    policy: Policy,
+    memory: Vec<u8>,
+    place: Place,
+    number: u32,
 }
 
-fn checked(stand: Stand, right: bool) -> Stand {
-    let mut next = stand;
-    next.checks = stand.checks.wrapping_add(1);
-    next.right = right;
-    next
+// The bytes that words write, each by two hexadecimal digits; none where a word is no such byte, or there is no word.
+fn bytes_of(alloc: Global, words: &[&str]) -> Result<Option<Vec<u8>>, AllocError> {
+    let mut bytes = Vec::new(alloc);
+    for word in words {
+        match u8::from_str_radix(word, 16) {
+            Ok(byte) if word.len() == 2 => bytes.push(byte)?,
+            _ => return Ok(None),
+        }
+    }
+    Ok(if bytes.is_empty() { None } else { Some(bytes) })
 }
 
-// With the place that a refused Start or Run returns.
-fn answered(stand: Stand, answer: Result<Place, Refused>, kept: Place) -> Stand {
-    Stand {
-        place: answer.unwrap_or(kept),
-        number: answer.err().map_or(0, u32::from),
-        checks: stand.checks,
-        right: stand.right,
+impl Trial<'_> {
+    fn meets(&self, alloc: Global, check: Check) -> Result<bool, AllocError> {
+        match check {
+            Check::Memory(at, words) => {
+                let bytes = bytes_of(alloc, words)?;
+                Ok(bytes.is_some_and(|bytes| {
+                    self.memory.get(at..at.saturating_add(bytes.len())) == Some(bytes.as_slice())
+                }))
+            }
+            Check::Place(Place { slot, used, count }) => {
+                let place = self.place;
+                Ok((place.slot, place.used, place.count) == (slot, used, count))
+            }
+            Check::Number(number) => Ok(self.number == number),
+            Check::Changed(line, change, answer) => {
+                let text = changed(alloc, self.base, line as usize, change)?;
+                Ok(text.is_some_and(|text| read(text.as_bytes()).0 == answer))
+            }
+        }
+    }
+
+    // Puts bytes into memory, where there is room for them.
+    fn put(&mut self, at: usize, bytes: &[u8]) -> bool {
+        let end = at.saturating_add(bytes.len());
+        match self.memory.as_mut_slice().get_mut(at..end) {
+            Some(room) => {
+                room.copy_from_slice(bytes);
+                true
+            }
+            None => false,
+        }
+    }
+
+    // Obeys a step, and answers whether it is right.
+    fn obey(&mut self, alloc: Global, step: Step) -> Result<bool, AllocError> {
+        let policy = &self.policy;
+        match step {
+            Step::Start => {
+                let (number, place) = start(policy, &mut self.memory);
+                self.number = number;
+                self.place = place;
+            }
+            Step::Run(ticks) => {
+                let (number, place) = run(policy, &mut self.memory, self.place, ticks);
+                self.number = number;
+                self.place = place;
+            }
+            Step::Pend(partition, line) => {
+                self.number = pend(policy, &mut self.memory, partition, line);
+            }
+            Step::From(place) => self.place = place,
+            Step::Put(at, words) => {
+                let bytes = bytes_of(alloc, words)?;
+                return Ok(bytes.is_some_and(|bytes| self.put(at, &bytes)));
+            }
+            Step::Check(check) => return self.meets(alloc, check),
+        }
+        Ok(true)
     }
 }
 
-// Whether memory holds the bytes of a line at its address, where `put` has them put there first.
-fn holds(memory: &mut [u8], line: &[u8], put: bool) -> bool {
-    let at = number_in(line, 1) as usize;
-    let mut space = [0u8; 64];
-    let n = bytes_of(line, nth(line, 2, b' '), 2, &mut space);
-    // At the end of memory there is no room, so nothing is put there.
-    let to = if put { at } else { memory.len() };
-    append(&space[..n], memory, to);
-    (0 < n) & same(part(memory, at, at + n), &space[..n])
-}
-
-// Whether the third number of a line is one: the highest count is the number that stands for none.
-fn has_count(line: &[u8]) -> bool {
-    (number_in(line, 3) < NONE) | same(word(line, 3), b"4294967295")
-}
-
-// A line that checks, with its numbers where it has just one or just three.
-fn check(base: &[u8], memory: &mut [u8], line: &[u8], stand: Stand) -> Stand {
-    let first = word(line, 0);
-    let x = number_in(line, 1);
-    let y = number_in(line, 2);
-    let place = stand.place;
-    if same(first, b"line") {
-        return checked(stand, is_answered(base, line));
-    }
-    if same(first, b"without") | same(first, b"with") {
-        return checked(stand, is_changed(base, line, same(first, b"without")));
-    }
-    if same(first, b"is") {
-        return checked(stand, holds(memory, line, false));
-    }
-    if same(first, b"place") {
-        let count = has_count(line) & (number_in(line, 3) == place.count);
-        let whole = nth(line, 4, b' ') == line.len();
-        return checked(stand, (x == place.slot) & (y == place.used) & count & whole);
-    }
-    let whole = nth(line, 2, b' ') == line.len();
-    checked(stand, same(first, b"number") & (x == stand.number) & whole)
-}
-
-fn step(base: &[u8], policy: Policy, memory: &mut [u8], line: &[u8], stand: Stand) -> Stand {
-    let first = word(line, 0);
-    let x = number_in(line, 1);
-    let y = number_in(line, 2);
-    let one = (x < NONE) & (nth(line, 2, b' ') == line.len());
-    let two = (x < NONE) & (y < NONE) & (nth(line, 3, b' ') == line.len());
-    let three = (x < NONE) & (y < NONE) & has_count(line) & (nth(line, 4, b' ') == line.len());
-    let mut next = stand;
-    let place = stand.place;
-    if line.len() == 0 {
-        return stand;
-    }
-    if same(line, b"start") {
-        return answered(stand, kernel::start(&policy, memory), kernel::START);
-    }
-    if same(first, b"run") & one {
-        return answered(stand, kernel::run(&policy, memory, place, x), place);
-    }
-    if same(first, b"pend") & two {
-        next.number = kernel::pend(&policy, memory, x, y)
-            .err()
-            .map_or(0, u32::from);
-        return next;
-    }
-    if same(first, b"from") & three {
-        let from = Place {
-            slot: x,
-            used: y,
-            count: number_in(line, 3),
-        };
-        next.place = from;
-        return next;
-    }
-    if same(first, b"put") {
-        next.right = holds(memory, line, true);
-        return next;
-    }
-    check(base, memory, line, stand)
-}
-
-fn show_stand(rt: &impl Print, stand: Stand, line: u32) -> io::Result<()> {
-    show_number(rt, b"checked ", stand.checks)?;
-    show(rt, b", ")?;
-    show_verdict(rt, stand.right, line)
-}
-
-// Obeys the lines of a block, from the line after its fence on, under the policy that the text `base` says, that of
-// zeros where it is refused.
-pub(crate) fn try_lines(rt: &impl Print, base: &[u8], block: &[u8], fence: u32) -> io::Result<()> {
-    let policy = reader::read(base).unwrap_or(Policy::zeros());
-    let mut memory = [0u8; MEMORY];
-    let mut stand = Stand {
-        place: kernel::START,
+// Obeys the lines of a block under the policy of a text, that of zeros where it is refused, and answers which line is
+// wrong, if one is.
+pub(crate) fn try_lines<R: Print + AllocGlobal>(
+    rt: &R,
+    base: &[&str],
+    block: &Block,
+) -> io::Result<Option<usize>> {
+    let alloc = rt.alloc();
+    let (_, policy) = read(base.concat(alloc)?.as_bytes());
+    let mut trial = Trial {
+        base,
+        policy,
+        memory: vec![in alloc; 0; MEMORY]?,
+        place: Place {
+            slot: 0,
+            used: 0,
+            count: 0,
+        },
         number: 0,
-        checks: 0,
-        right: true,
     };
-    let mut at = 0;
-    let mut left: u32 = 1000;
-    let mut line = fence;
-    while 0 < left {
-        line = line.wrapping_add(1);
-        if block.len() <= at {
-            return show_stand(rt, stand, line);
+    let mut wrong = None;
+    let mut checks = 0u32;
+    for (number, line) in (block.line.saturating_add(1)..).zip(block.lines) {
+        // Up to its comment, without the spaces at its end.
+        let line = line
+            .split(['#', '\n'])
+            .next()
+            .unwrap_or_default()
+            .trim_end_matches(' ');
+        if line.is_empty() {
+            continue;
         }
-        stand = step(
-            base,
-            policy,
-            &mut memory,
-            stripped(field(block, at, b'\n')),
-            stand,
-        );
-        if !stand.right {
-            return show_stand(rt, stand, line);
+        let words: Vec<&str> = line.split(' ').collect(alloc)?;
+        let step = Step::parse(line, &words);
+        if let Some(Step::Check(_)) = step {
+            checks = checks.saturating_add(1);
         }
-        at = past(block, at, b'\n');
-        left -= 1;
+        let is_right = match step {
+            Some(step) => trial.obey(alloc, step)?,
+            None => false,
+        };
+        if !is_right {
+            wrong = Some(number);
+            break;
+        }
     }
-    show(rt, b"too long: WRONG\n")
+    print!(rt; "checked {checks}, ")?;
+    Ok(wrong)
 }
