@@ -5,6 +5,9 @@ ghost use Rattle.std.specs.Prelude.{◌≡◌, ◌<◌, length, take, IfOk, OnEr
 ghost use Rattle.std.specs.Io.KnownBytes.{Consumes, IsAtEnd};
 ghost use Rattle.input.specs.Counts.{IsPrefixLen};
 
+mod reports;
+
+pub use reports::write_report;
 use std::io;
 use std::io::Read;
 

@@ -1,13 +1,8 @@
-// Reads a policy text from standard input and writes its sheet. One byte past the longest text is enough to see that a text is too long.
+// Reads a policy text from standard input and writes its sheet.
 #![tactic(auto)]
 
-use input::read_full;
 use std::io;
 
 fn main(rt: HostRuntime) -> io::Result<()> {
-    let mut text = [0u8; 16385];
-    let n = read_full(&mut rt.reader(), &mut text)?;
-    let mut out = [0u8; 204];
-    let m = sheeting::sheet_on(&text[..n], &mut out);
-    rt.write_all(&out[..m])
+    input::write_report(&rt, [0u8; 204], |text, out| sheeting::sheet_on(text, out))
 }

@@ -1,9 +1,0 @@
--- Each turn fills a byte of those that there is room for.
-use Rattle.std.proofs.Common.{length, ◌-◌, ◌≤◌}
-use Rattle.script.proofs.numbers.bytes_of.Given as goal
-
-abbrev pub invariant-loop-n : goal.invariant-loop-n
-invariant-loop-n l = l.n ≤ length l.out
-
-abbrev pub decreases-loop-n : goal.decreases-loop-n
-decreases-loop-n l = length l.initial.out - l.n
