@@ -1,5 +1,6 @@
 // What the examples are compared with: each tested call as its number and its answer.
-use calls::Placed;
+use calls::Refused;
+use kernel::START;
 use machine::Place;
 use policy::Policy;
 
@@ -12,28 +13,36 @@ pub(crate) struct Answer {
 
 // The record of a refused text is that of zeros.
 pub(crate) fn read(text: &[u8]) -> (Answer, Policy) {
-    let reading = reader::read(text);
-    let refusal = reading.refusal;
-    let policy = reading.policy;
-    let answer = Answer {
-        number: reader::number_of(refusal),
-        line: reader::line_number_of(refusal),
-    };
-    (answer, policy)
+    match reader::read(text) {
+        Ok(policy) => (Answer { number: 0, line: 0 }, policy),
+        Err(refusal) => {
+            let answer = Answer {
+                number: refusal.number(),
+                line: refusal.line(),
+            };
+            (answer, Policy::zeros())
+        }
+    }
 }
 
-fn numbered(placed: Placed) -> (u32, Place) {
-    (kernel::outcome_number(placed.outcome), placed.place)
+// With the place that a refused call returns.
+fn numbered(answer: Result<Place, Refused>, kept: Place) -> (u32, Place) {
+    match answer {
+        Ok(place) => (0, place),
+        Err(refused) => (u32::from(refused), kept),
+    }
 }
 
 pub(crate) fn start(policy: &Policy, memory: &mut [u8]) -> (u32, Place) {
-    numbered(kernel::start(*policy, memory))
+    numbered(kernel::start(policy, memory), START)
 }
 
 pub(crate) fn run(policy: &Policy, memory: &mut [u8], place: Place, ticks: u32) -> (u32, Place) {
-    numbered(kernel::run(*policy, memory, place, ticks))
+    numbered(kernel::run(policy, memory, place, ticks), place)
 }
 
 pub(crate) fn pend(policy: &Policy, memory: &mut [u8], partition: u32, line: u32) -> u32 {
-    kernel::outcome_number(kernel::pend(*policy, memory, partition, line))
+    kernel::pend(policy, memory, partition, line)
+        .err()
+        .map_or(0, u32::from)
 }
