@@ -22,6 +22,7 @@ fn with_given(mask: u32, s: u32, given: bool) -> u32
 }
 
 impl Draft {
+    #[tactic(auto, unfolding(policy::specs::Draft::added))]
     fn add_segment(&mut self, id: u32, base: u32, size: u32)
         requires next { id ≡ self.old.policy.segments }
         requires has_place { id < 32 }
@@ -35,6 +36,7 @@ impl Draft {
         self.ended = self.ended.max(base + size);
     }
 
+    #[tactic(auto, unfolding(policy::specs::Draft::added))]
     fn add_partition(&mut self, id: u32, code: u32, save: u32)
         requires next { id ≡ self.old.policy.partitions }
         requires has_place { id < 8 }
@@ -60,6 +62,7 @@ impl Draft {
         self.policy.writes[p] = with_given(self.policy.writes[p], segment, writes);
     }
 
+    #[tactic(auto, unfolding(policy::specs::Draft::added))]
     fn add_flow(&mut self, from: u32, to: u32)
         requires has_place { (from < 32) × (to < 32) }
         ensures tables { tables_of self.new.policy ≡ added (tables_of self.old.policy) (Flow from to) }
@@ -69,6 +72,7 @@ impl Draft {
         self.policy.sources[t] = with_low_bit(self.policy.sources[t], from);
     }
 
+    #[tactic(auto, unfolding(policy::specs::Draft::added))]
     fn add_slot(&mut self, partition: u32, ticks: u32)
         requires has_place { self.old.policy.slots < 32 }
         requires fits { (partition < 8) × (ticks < 65536) }
@@ -81,6 +85,7 @@ impl Draft {
         self.policy.slots = slot + 1;
     }
 
+    #[tactic(auto, unfolding(policy::specs::Draft::added))]
     pub fn add(&mut self, line: Line)
         requires { Fits (view_in self.old) line }
         ensures { draft_of self.new ≡ after (draft_of self.old) line }

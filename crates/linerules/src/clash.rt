@@ -58,6 +58,7 @@ pub(crate) fn partition_clashes(policy: &Policy, partitions: u8, code: u32, save
 
 impl Draft {
     // For a line that rule 4 lets pass. A segment that begins where those before have ended is compared with none of them.
+    #[tactic(auto, unfolding(policy::specs::Clash::clashes))]
     pub(crate) fn clashes(&self, line: Line) -> bool
         requires ends_in_memory { end_of line ≤ single.memory }
         requires names_a_segment { right_on line < single.segments }

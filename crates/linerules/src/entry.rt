@@ -13,6 +13,7 @@ use policy::Policy;
 
 // The segments before have ended at `end`. One that begins there or later overlaps none of them, so segments in the order
 // of their bases need one test each.
+#[tactic(auto, unfolding(policy::specs::Sound::good_segment, policy::specs::Range::out_of_range, policy::specs::Clash::clashes))]
 pub fn segment_passes(policy: &Policy, i: u8, end: u32) -> bool
     requires { EndedBy policy.now.base policy.now.size i end }
     ensures { result ≡ good_segment single (view_of (tables_of policy.now)) i }
@@ -29,6 +30,7 @@ pub fn segment_passes(policy: &Policy, i: u8, end: u32) -> bool
     !overlaps_earlier(policy, i, base, size)
 }
 
+#[tactic(auto, unfolding(policy::specs::Sound::good_partition, policy::specs::Range::out_of_range, policy::specs::Clash::clashes))]
 pub fn partition_passes(policy: &Policy, i: u8) -> bool
     ensures { result ≡ good_partition single (view_of (tables_of policy.now)) i }
 {

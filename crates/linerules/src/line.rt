@@ -16,6 +16,7 @@ fn is_bad(line: Line) -> bool
 
 impl Draft {
     // The answer for the n-th line after those in the draft.
+    #[tactic(auto, unfolding(policy::specs::Read::line_refusal))]
     pub fn check(&self, line: Line, n: u32) -> Result<(), Refusal>
         ensures { result ≡ line_refusal single n self.now.before (view_in self.now) line }
     {

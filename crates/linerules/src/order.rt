@@ -50,6 +50,7 @@ pub(crate) fn key_of(line: Line) -> Key
 }
 
 impl Draft {
+    #[tactic(auto, unfolding(policy::specs::Order::out_of_order))]
     pub(crate) fn out_of_order(&self, line: Line) -> bool
         ensures { result ≡ out_of_order self.now.before (view_in self.now) line }
     {

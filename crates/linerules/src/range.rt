@@ -40,6 +40,7 @@ fn slot_outside(partitions: u8, slots: u8, partition: u32, ticks: u32) -> bool
 }
 
 impl Draft {
+    #[tactic(auto, unfolding(policy::specs::Range::out_of_range))]
     pub(crate) fn out_of_range(&self, line: Line) -> bool
         ensures { result ≡ out_of_range single (view_in self.now) line }
     {

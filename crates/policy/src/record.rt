@@ -1,4 +1,5 @@
-// The policy record: who may read and write which segment, and the schedule. Unused entries are 0.
+// The policy record: who may read and write which segment, and the schedule. Unused entries are 0. Arrays with their counts beside them, as
+// include/separation_kernel.h has them: this layout may not change.
 #[repr(C)]
 #[derive(Clone, Copy)]
 pub struct Policy {
@@ -51,7 +52,8 @@ impl Policy {
     }
 }
 
-// Where a line stands in the order of lines: its kind, and its id or pair. Keys compare in this order.
+// Where a line stands in the order of lines: its kind, and its id or pair. Keys compare in this order. The kind is a number, since the definitions'
+// order of kinds and the theorems on it (Kept) compare numbers.
 #[derive(Clone, Copy, PartialEq, Eq, PartialOrd, Ord)]
 pub struct Key {
     pub kind: u8,

@@ -18,6 +18,7 @@ pub fn read_lines(text: &[u8]) -> Result<Policy, Refusal>
 {
     let mut draft = Draft::new();
     let mut c = Cursor { at: 0, line: 1 };
+    // No `for`: the reader of a line says where the next one begins.
     while c.at < text.len() {
         let read = lexer::line_from(text, c.at, c.line);
         let line = read.line;

@@ -7,15 +7,6 @@ use Rattle.policy.specs.Sound.{good_segment}
 use Rattle.linerules.proofs.Laws.Ends.{none_past}
 use Rattle.linerules.proofs.entry.segment_passes.Goals as goal
 
-pub returns-then-segment_outside : goal.returns-then-segment_outside
-unfolding good_segment out_of_range clashes
-returns-then-segment_outside c =
-    rw (
-      ← c.entry_or-base.ensures,
-      ← c.entry_or-size.ensures,
-      sym c.segment_outside.ensures ∙ c.if-segment_outside.true,
-    )
-
 pub returns-then-end-base : goal.returns-then-end-base
 unfolding good_segment out_of_range clashes
 returns-then-end-base c =
@@ -26,14 +17,4 @@ returns-then-end-base c =
       ← c.entry_or-size.ensures,
       sym c.segment_outside.ensures ∙ c.if-segment_outside.false,
       none_past (tables_of a.policy.now) a.i a.end _ _ start.requires c.if-end-base.true,
-    )
-
-pub returns : goal.returns
-unfolding good_segment out_of_range clashes
-returns c =
-    rw (
-      ← c.entry_or-base.ensures,
-      ← c.entry_or-size.ensures,
-      sym c.segment_outside.ensures ∙ c.if-segment_outside.false,
-      c.overlaps_earlier.ensures,
     )

@@ -1,5 +1,4 @@
 -- A line that fits the record has its place there.
-use Rattle.policy.specs.Draft.{added}
 use Rattle.linerules.proofs.Laws.Fits.{segment_fits, partition_fits, right_fits, flow_fits, slot_fits}
 use Rattle.linerules.proofs.draft.Draft.add.Goals as goal
 
@@ -32,7 +31,3 @@ pub add_slot-requires-clause-fits : goal.add_slot-requires-clause-fits
 add_slot-requires-clause-fits c =
     let f = slot_fits _ _ _ (rw c.in-Slot.is at c.requires) in
     (f.1, f.2)
-
-pub returns-in-Bad : goal.returns-in-Bad
-unfolding added
-returns-in-Bad c = rw (c.in-Bad.is, c.key_of-self.ensures, c.in-Bad.is)

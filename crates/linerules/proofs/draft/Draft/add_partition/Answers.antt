@@ -1,8 +1,6 @@
 -- What is stored is what the line adds, and the bit of its save segment is set.
 use native.Mathlib.Omega.{arith}
 use borrow.Author.Rules.{rules}
-use mathlib.Core.Path.{refl}
-use Rattle.policy.specs.Draft.{added}
 use Rattle.linerules.proofs.Laws.Saves.{saves_stored}
 use Rattle.linerules.proofs.draft.Draft.add_partition.Goals as goal
 
@@ -18,7 +16,3 @@ invariant_of-self c =
           (saves_stored d.policy.save c.args.id c.args.save d.barred (search rules) c.requires.has_place (rw c.requires.next d.saves_barred));
       segments_ended = d.segments_ended;
     }
-
-pub returns-clause-tables : goal.returns-clause-tables
-unfolding added
-returns-clause-tables c = refl

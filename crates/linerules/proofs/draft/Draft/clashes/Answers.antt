@@ -15,10 +15,6 @@ pub has_bit-requires : goal.has_bit-requires
 has_bit-requires c =
     omega (arith, rw c.in-Right.is at c.requires.names_a_segment)
 
-pub returns-in-Bad : goal.returns-in-Bad
-unfolding clashes
-returns-in-Bad c = rw c.in-Bad.is
-
 pub returns-then-self-base : goal.returns-then-self-base
 unfolding clashes
 returns-then-self-base c =
@@ -26,24 +22,8 @@ returns-then-self-base c =
     rw c.in-Segment.is
     (sym (none_past (tables_of d.policy) d.policy.segments d.ended _ _ d.segments_ended c.if-self-base.true))
 
-pub returns-else-self-base : goal.returns-else-self-base
-unfolding clashes
-returns-else-self-base c = rw c.in-Segment.is c.overlaps_earlier.ensures
-
-pub returns-in-Partition : goal.returns-in-Partition
-unfolding clashes
-returns-in-Partition c = rw c.in-Partition.is c.partition_clashes.ensures
-
 pub returns-in-Right : goal.returns-in-Right
 unfolding clashes
 returns-in-Right c =
     rw c.in-Right.is
     (c.has_bit.ensures ∙ c.args.self.now.saves_barred _)
-
-pub returns-in-Flow : goal.returns-in-Flow
-unfolding clashes
-returns-in-Flow c = rw c.in-Flow.is
-
-pub returns-in-Slot : goal.returns-in-Slot
-unfolding clashes
-returns-in-Slot c = rw c.in-Slot.is

@@ -19,18 +19,6 @@ key-falls : (kind first second : ℕ) (before : Key) →
     ≡ ltb kind before.kind || eqb before.kind kind && not (ascends before first second)
 key-falls kind first second before = grind (arith, nat_tests)
 
-pub returns-in-Bad : goal.returns-in-Bad
-unfolding out_of_order
-returns-in-Bad c = rw (c.key_of-key.ensures, c.in-Bad.is) (simp or-false)
-
-pub returns-in-Segment : goal.returns-in-Segment
-unfolding out_of_order
-returns-in-Segment c = rw (c.key_of-key.ensures, c.in-Segment.is, or-false)
-
-pub returns-in-Partition : goal.returns-in-Partition
-unfolding out_of_order
-returns-in-Partition c = rw (c.key_of-key.ensures, c.in-Partition.is, or-false)
-
 pub returns-in-Right : goal.returns-in-Right
 unfolding out_of_order
 returns-in-Right c =
@@ -42,7 +30,3 @@ unfolding out_of_order
 returns-in-Flow c =
     rw (c.le-in-Flow.ensures, c.key_of-key.ensures, c.in-Flow.is, or-false)
     (key-falls 3 c.in-Flow.from c.in-Flow.to c.args.self.now.before)
-
-pub returns-in-Slot : goal.returns-in-Slot
-unfolding out_of_order
-returns-in-Slot c = rw (c.key_of-key.ensures, c.in-Slot.is) (simp or-false)
