@@ -5,6 +5,7 @@ ghost use Rattle.policy.specs.Whole.{flow_missing, stray_flow};
 ghost use Rattle.wholerules.specs.Parts.{view_of_parts};
 
 use crate::parts::Parts;
+use crate::reach::Reach;
 use bits::worth;
 
 // Whether a line that rule 8 asks for is missing, and whether a line into a save segment has a stray source.
@@ -22,7 +23,15 @@ impl Parts<'_> {
         ensures missing { result.missing ≡ found_after (view_of_parts self.now) targets }
         ensures stray { result.stray ≡ stray_flow (view_of_parts self.now) }
     {
-        let reach = self.reach_all();
+        let mut reached = [0; 12];
+        let mut written = [0; 12];
+        let all = self.reach_all(&mut reached, &mut written);
+        let reach = Reach {
+            partitions: self.partitions,
+            reached: &reached,
+            written: &written,
+            all,
+        };
         let mut missing = false;
         for t in 0..targets {
             let allowed = self.sources[t as usize] | worth(t as u32);
@@ -30,7 +39,7 @@ impl Parts<'_> {
         }
         Flows {
             missing,
-            stray: reach.stray,
+            stray: all.stray,
         }
     }
 

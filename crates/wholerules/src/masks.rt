@@ -9,7 +9,7 @@ ghost use Rattle.wholerules.specs.Masks.{AreReached, asked_into, joined};
 ghost use Rattle.wholerules.specs.Parts.{view_of_parts};
 
 use crate::parts::Parts;
-use crate::reach::Reach;
+use crate::reach::{Gathered, Reach};
 use bits::{bit_of, bits_below, has_bit, within};
 use octets::entry_or;
 
@@ -23,10 +23,10 @@ fn picked(take: bool, mask: u64) -> u64
 impl Parts<'_> {
     // What each partition reaches by the read masks and by the write masks: its masks with its save segment, of the
     // segments that are there. What it reaches is held against the sources of its save segment while it is at hand.
-    pub(crate) fn reach_all(&self) -> Reach
-        ensures count { result.partitions ≡ self.now.partitions }
-        ensures are_reached { AreReached self.now.save.now self.now.reads.now self.now.segments self.now.partitions result.reached }
-        ensures are_written { AreReached self.now.save.now self.now.writes.now self.now.segments self.now.partitions result.written }
+    pub(crate) fn reach_all(&self, reached: &mut [u64; 12], written: &mut [u64; 12]) -> Gathered
+        ensures are_reached { AreReached self.now.save.now self.now.reads.now self.now.segments self.now.partitions reached.new }
+        ensures are_written { AreReached self.now.save.now self.now.writes.now self.now.segments self.now.partitions written.new }
+        ensures reached_joined { result.reached ≡ joined reached.new self.now.partitions }
         ensures given_joined { result.given ≡ joined self.now.writes.now self.now.partitions }
         ensures lackers_found { (t : ℕ) → t < self.now.segments →
             has result.lackers t
@@ -35,8 +35,6 @@ impl Parts<'_> {
         ensures stray_found { result.stray ≡ stray_flow (view_of_parts self.now) }
     {
         let there = bits_below(self.segments);
-        let mut reached = [0u64; 12];
-        let mut written = [0u64; 12];
         let mut any_reached: u64 = 0;
         let mut given: u64 = 0;
         let mut lackers: u64 = 0;
@@ -55,11 +53,8 @@ impl Parts<'_> {
             any_reached |= reach;
             given |= gives;
         }
-        Reach {
-            partitions: self.partitions,
-            reached,
-            written,
-            any_reached,
+        Gathered {
+            reached: any_reached,
             given,
             lackers,
             stray,
@@ -67,11 +62,11 @@ impl Parts<'_> {
     }
 }
 
-impl Reach {
+impl Reach<'_> {
     // The sources that rule 8 asks for into t: what the partitions reach that may write it. No exit inside.
     fn asked_into(&self, t: u8) -> u64
         requires { t < 64 }
-        ensures { result ≡ asked_into self.now.reached self.now.written t self.now.partitions }
+        ensures { result ≡ asked_into self.now.reached.now self.now.written.now t self.now.partitions }
     {
         let mut asked: u64 = 0;
         for p in 0..self.partitions as usize {
@@ -86,15 +81,15 @@ impl Reach {
     // Then the partitions need not be asked one by one.
     pub(crate) fn target_lacks(&self, t: u8, allowed: u64) -> bool
         requires in_width { t < 64 }
-        requires lackers_tell { let asked = asked_into self.now.reached self.now.written t self.now.partitions in
-            has self.now.given t ≡ false → has self.now.lackers t ≡ not (eqb (bit_and asked allowed) asked) }
-        ensures { let asked = asked_into self.now.reached self.now.written t self.now.partitions in
+        requires lackers_tell { let asked = asked_into self.now.reached.now self.now.written.now t self.now.partitions in
+            has self.now.all.given t ≡ false → has self.now.all.lackers t ≡ not (eqb (bit_and asked allowed) asked) }
+        ensures { let asked = asked_into self.now.reached.now self.now.written.now t self.now.partitions in
             result ≡ not (eqb (bit_and asked allowed) asked) }
     {
-        if !has_bit(self.given, t as u32) {
-            return has_bit(self.lackers, t as u32);
+        if !has_bit(self.all.given, t as u32) {
+            return has_bit(self.all.lackers, t as u32);
         }
-        if within(self.any_reached, allowed) {
+        if within(self.all.reached, allowed) {
             return false;
         }
         !within(self.asked_into(t), allowed)

@@ -3,6 +3,7 @@
 use Prim.Native.Nat.{◌<◌}
 use mathlib.Core.Path.{◌≡◌, refl, ◌∙◌}
 use native.Mathlib.Omega.{arith}
+use borrow.Author.Rules.{rules}
 use lib.ListN.{length, length-set}
 use Rattle.bits.proofs.Laws.Masks.{has_none, has-or}
 use Rattle.policy.specs.Below.{some_below}
@@ -19,8 +20,8 @@ pub loop-p-init : goal.loop-p-init
 unfolding joined some_below
 loop-p-init c =
     record {
-      reached_long = refl;
-      written_long = refl;
+      reached_long = search rules;
+      written_long = search rules;
       reached = λ p l. absurd (omega arith);
       written = λ p l. absurd (omega arith);
       any_reached = refl;
@@ -56,20 +57,14 @@ loop-p-preserved c =
           p _ _ _ _ _ a.few.0 refl there own (at _ _ _ refl refl) from));
     }
 
-pub invariant_of-result : goal.invariant_of-result
-unfolding joined
-invariant_of-result c =
-    let q : c.loop-p.p ≡ c.args.self.now.partitions = omega arith in
-    record { few = omega arith; all_joined = c.loop-p.invariant.any_reached ∙ rw q }
-
 pub returns : goal.returns
 unfolding stray_flow
 returns c =
     let inv = c.loop-p.invariant in
     let e : c.loop-p.p ≡ c.args.self.now.partitions = omega arith in record {
-      count = refl;
       are_reached = λ p l. inv.reached p (omega arith);
       are_written = λ p l. inv.written p (omega arith);
+      reached_joined = inv.any_reached ∙ rw e;
       given_joined = inv.given ∙ rw e;
       lackers_found = λ t k. inv.lackers t k ∙ rw e;
       stray_found = inv.stray ∙ rw e;

@@ -12,7 +12,7 @@ loop-p-init c = refl
 pub loop-p-preserved : goal.loop-p-preserved
 loop-p-preserved c =
     let all = c.args.self.now in
-    asked_more all.reached all.written c.args.t c.loop-p.p _ _ c.loop-p.invariant (c.picked-asked.ensures ∙ rw c.has_bit-write.ensures)
+    asked_more all.reached.now all.written.now c.args.t c.loop-p.p _ _ c.loop-p.invariant (c.picked-asked.ensures ∙ rw c.has_bit-write.ensures)
 
 pub returns : goal.returns
 returns c =

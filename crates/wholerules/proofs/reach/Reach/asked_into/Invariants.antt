@@ -4,4 +4,4 @@ use Rattle.wholerules.specs.Masks.{asked_into}
 use Rattle.wholerules.proofs.reach.Reach.asked_into.Given as goal
 
 abbrev pub invariant-loop-p : goal.invariant-loop-p
-invariant-loop-p l = l.asked ≡ asked_into l.self.reached l.self.written l.t l.p
+invariant-loop-p l = l.asked ≡ asked_into l.self.reached.now l.self.written.now l.t l.p

@@ -14,8 +14,8 @@ pub returns-then-within : goal.returns-then-within
 returns-then-within c =
     let a = c.args in
     let all = a.self.now in
-    let allowed : bit_and all.any_reached a.allowed ≡ all.any_reached = eqb-true _ _ (sym c.within.ensures ∙ c.if-within.true) in
-    rw (eq-eqb _ _ (asked_within all.reached all.written a.t all.partitions a.allowed (rw all.all_joined at allowed)))
+    let allowed : bit_and all.all.reached a.allowed ≡ all.all.reached = eqb-true _ _ (sym c.within.ensures ∙ c.if-within.true) in
+    rw (eq-eqb _ _ (asked_within all.reached.now all.written.now a.t all.partitions a.allowed (rw all.all_joined at allowed)))
 
 pub returns : goal.returns
 returns c = rw (c.within-2.ensures, c.asked_into.ensures)
