@@ -22,6 +22,8 @@ fn run_ticks(policy: Policy, memory: &mut [u8], place: Place, n: u32) -> Place
     ensures { state_of memory.new result
         ≡ after_ticks (view_of (tables_of policy)) n (state_of memory.old place) }
 {
+    // The count after all n.
+    let end = place.count.wrapping_add(n);
     let mut turn = turn_at(&policy.ticks, place);
     let mut left = n;
     // By hand: each turn takes as many ticks as its slot has left.
@@ -32,18 +34,15 @@ fn run_ticks(policy: Policy, memory: &mut [u8], place: Place, n: u32) -> Place
         let save = usize::from(policy.save[owner]);
         // Asked before all else is looked up: an idle partition needs none of it.
         if is_able(memory, usize::from(policy.base[save])) {
-            let count = place.count.wrapping_add(n - left);
-            stretch(memory, &policy, owner, count, room.min(left));
+            stretch(memory, &policy, owner, end.wrapping_sub(left), room.min(left));
         }
         // A branch, and no choice between two places: the next slot does not wait for the ticks of this one.
         if left < room {
-            let end = place.count.wrapping_add(n);
             return place_with(&policy.ticks, slot, room - left, end);
         }
         left -= room;
         turn = next_turn(&policy.ticks, policy.slots, slot);
     }
-    let end = place.count.wrapping_add(n);
     place_with(&policy.ticks, turn.slot, turn.left, end)
 }
 

@@ -1,6 +1,6 @@
 -- Each turn is a stretch of the machine's ticks, as many as the slot has left or the Run, or as many ticks of a partition that is not able, which do
 -- nothing; a state that stands has the slot, its partition and the segments in range.
-use Rattle.std.proofs.Common.{◌≡◌, min, length, get_or, sym, ◌∙◌, arith, rules}
+use Rattle.std.proofs.Common.{◌≡◌, ℕ, ◌+◌, ◌-◌, ◌%◌, ◌<◌, ◌≤◌, min, length, get_or, sym, ◌∙◌, arith, rules}
 use Rattle.policy.specs.Tables.{view_of}
 use Rattle.policy.specs.Record.{tables_of}
 use Rattle.machine.specs.Machine.{seat}
@@ -11,6 +11,10 @@ use Rattle.kernel.proofs.Laws.Reached.{owner_of, reached_none, slot_in_lem, used
 use Rattle.kernel.proofs.Laws.Turns.{place_by, turned_first, room_in, ends_in, ends_slot}
 use Rattle.kernel.proofs.running.run_ticks.Goals as goal
 use Rattle.kernel.proofs.running.run_ticks.Goals.{then-is_able, else-is_able}
+
+-- The count of the next tick, from the last one's and the ticks left.
+counted : (c n left : ℕ) → left ≤ n → n < 4294967296 → ((c + n) % 4294967296 + (4294967296 - left)) % 4294967296 ≡ (c + (n - left)) % 4294967296
+counted c n left most fits = omega arith
 
 pub turn_at-turn-requires : goal.turn_at-turn-requires
 turn_at-turn-requires c =
@@ -65,9 +69,10 @@ returns-then-left-room c =
     let save = get_or t.partitions.save p 0 in
     let few = c.if-left-room.true in
     let e : l.left ≡ min l.turn.left l.left = omega (arith, few) in
+    let count = counted c.args.place.count c.args.n l.left l.invariant.most (search (rules, c.ranges)) in
     let done : c.if-is_able.memory ≡ ticked_of c.args.policy p here.count l.left l.memory =
     elim c.if-is_able.branch [
-      | then-is_able w ↦ w.memory-is ∙ (rw (c.from-owner.ensures, w.min.ensures ∙ sym e) at w.stretch.ensures)
+      | then-is_able w ↦ w.memory-is ∙ (rw (count, c.from-owner.ensures, w.min.ensures ∙ sym e) at w.stretch.ensures)
       | else-is_able w ↦
           w.memory-is
           ∙ sym (idle_ticks (seat (view_of t) p) _ save _ l.left l.memory
@@ -84,9 +89,10 @@ loop-left-preserved c =
     let save = get_or t.partitions.save p 0 in
     let few = c.if-left-room.false in
     let e : l.turn.left ≡ min l.turn.left l.left = omega (arith, few) in
+    let count = counted c.args.place.count c.args.n l.left l.invariant.most (search (rules, c.ranges)) in
     let done : c.if-is_able.memory ≡ ticked_of c.args.policy p here.count l.turn.left l.memory =
     elim c.if-is_able.branch [
-      | then-is_able w ↦ w.memory-is ∙ (rw (c.from-owner.ensures, w.min.ensures ∙ sym e) at w.stretch.ensures)
+      | then-is_able w ↦ w.memory-is ∙ (rw (count, c.from-owner.ensures, w.min.ensures ∙ sym e) at w.stretch.ensures)
       | else-is_able w ↦
           w.memory-is
           ∙ sym (idle_ticks (seat (view_of t) p) _ save _ l.turn.left l.memory

@@ -7,7 +7,7 @@ use Rattle.kernel.proofs.Laws.Turns.{Turned}
 use Rattle.kernel.proofs.running.run_ticks.Given as goal
 
 abbrev pub invariant-loop-left : goal.invariant-loop-left
-invariant-loop-left l = Turned single (tables_of l.policy) (state_of l.initial.memory l.place) l.place.count l.n l.memory l.turn l.left
+invariant-loop-left l = Turned single (tables_of l.policy) (state_of l.initial.memory l.fn.place) l.fn.place.count l.n l.memory l.turn l.left
 
 abbrev pub decreases-loop-left : goal.decreases-loop-left
 decreases-loop-left l = l.left
