@@ -11,6 +11,15 @@ pub(crate) struct Answer {
     pub line: u32,
 }
 
+impl Answer {
+    pub(crate) fn parse(number: &str, line: &str) -> Option<Answer> {
+        Some(Answer {
+            number: number.parse().ok()?,
+            line: line.parse().ok()?,
+        })
+    }
+}
+
 // The record of a refused text is that of zeros.
 pub(crate) fn read(text: &[u8]) -> (Answer, Policy) {
     match reader::read(text) {

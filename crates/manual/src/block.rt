@@ -15,6 +15,14 @@ pub(crate) struct Block<'a, 'p> {
     pub is_closed: bool,
 }
 
+impl<'p> Block<'_, 'p> {
+    // What stands in its first line behind the fence.
+    fn info(&self) -> &'p str {
+        let line = self.fence.trim_end_matches('\n');
+        line.strip_prefix("```").unwrap_or_default()
+    }
+}
+
 // Whether a text is what a report writes into a buffer.
 fn is_written<B: AsSlice<u8> + Drop, F: FnOnce(&mut B) -> usize>(
     text: &str,
@@ -38,11 +46,7 @@ fn parse_policy<'a>(words: &[&str], text: &'a str) -> Option<(&'a str, usize, An
         ["policy", "times", count, number, line] => (text, count.parse().ok()?, number, line),
         _ => return None,
     };
-    let answer = Answer {
-        number: number.parse().ok()?,
-        line: line.parse().ok()?,
-    };
-    Some((text, times, answer))
+    Some((text, times, Answer::parse(number, line)?))
 }
 
 // The line at which a block is wrong about the last accepted text, if it is.
@@ -81,15 +85,11 @@ pub(crate) fn check_block<'a, 'p, R: Print + AllocGlobal>(
     base: &'a [&'p str],
 ) -> io::Result<&'a [&'p str]> {
     let alloc = rt.alloc();
-    let info = block.fence.trim_start_matches('`').trim_end_matches('\n');
-    let words: Vec<&str> = info.split(' ').collect(alloc)?;
+    let words: Vec<&str> = block.info().split(' ').collect(alloc)?;
     let text = block.lines.concat(alloc)?;
     let mut next = base;
-    print!(rt;
-        "{} {}: ",
-        words.first().copied().unwrap_or_default(),
-        block.number
-    )?;
+    let kind = words.first().copied().unwrap_or_default();
+    print!(rt; "{kind} {}: ", block.number)?;
     let wrong = if !block.is_closed {
         Some(block.line)
     } else if let Some((text, times, expected)) = parse_policy(&words, &text) {

@@ -9,12 +9,12 @@ pub(crate) fn check_page<R: Files + Print + AllocGlobal>(rt: &R, name: &str) -> 
     let alloc = rt.alloc();
     let page = fs::read_to_string(rt, name)?;
     let lines: Vec<&str> = page.split_inclusive('\n').collect(alloc)?;
-    let mut fences = Vec::new(alloc);
-    for (at, line) in lines.iter().enumerate() {
-        if line.starts_with("```") {
-            fences.push(at)?;
-        }
-    }
+    let fences: Vec<usize> = lines
+        .iter()
+        .enumerate()
+        .filter(|(_, line)| line.starts_with("```"))
+        .map(|(at, _)| at)
+        .collect(alloc)?;
     // No text yet.
     let mut base = &lines[..0];
     for (number, pair) in (1..).zip(fences.chunks(2)) {

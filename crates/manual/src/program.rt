@@ -1,5 +1,5 @@
 // A block of lines, obeyed one after another on a memory of zeros.
-use crate::answers::{Answer, pend, read, run, start};
+use crate::answers::{pend, read, run, start};
 use crate::block::Block;
 use crate::row::changed;
 use crate::step::{Check, Step};
@@ -31,7 +31,22 @@ fn bytes_of(alloc: Global, words: &[&str]) -> Result<Option<Vec<u8>>, AllocError
     Ok(if bytes.is_empty() { None } else { Some(bytes) })
 }
 
-impl Trial<'_> {
+impl<'a> Trial<'a> {
+    fn under(alloc: Global, base: &'a [&'a str]) -> Result<Trial<'a>, AllocError> {
+        let (_, policy) = read(base.concat(alloc)?.as_bytes());
+        Ok(Trial {
+            base,
+            policy,
+            memory: vec![in alloc; 0; MEMORY]?,
+            place: Place {
+                slot: 0,
+                used: 0,
+                count: 0,
+            },
+            number: 0,
+        })
+    }
+
     fn meets(&self, alloc: Global, check: Check) -> Result<bool, AllocError> {
         match check {
             Check::Memory(at, words) => {
@@ -46,7 +61,7 @@ impl Trial<'_> {
             }
             Check::Number(number) => Ok(self.number == number),
             Check::Changed(line, change, answer) => {
-                let text = changed(alloc, self.base, line as usize, change)?;
+                let text = changed(alloc, self.base, line, change)?;
                 Ok(text.is_some_and(|text| read(text.as_bytes()).0 == answer))
             }
         }
@@ -92,6 +107,12 @@ impl Trial<'_> {
     }
 }
 
+// A line up to its comment, without the spaces at its end.
+fn stripped(line: &str) -> &str {
+    let code = line.split(['#', '\n']).next().unwrap_or_default();
+    code.trim_end_matches(' ')
+}
+
 // Obeys the lines of a block under the policy of a text, that of zeros where it is refused, and answers which line is
 // wrong, if one is.
 pub(crate) fn try_lines<R: Print + AllocGlobal>(
@@ -100,27 +121,11 @@ pub(crate) fn try_lines<R: Print + AllocGlobal>(
     block: &Block,
 ) -> io::Result<Option<usize>> {
     let alloc = rt.alloc();
-    let (_, policy) = read(base.concat(alloc)?.as_bytes());
-    let mut trial = Trial {
-        base,
-        policy,
-        memory: vec![in alloc; 0; MEMORY]?,
-        place: Place {
-            slot: 0,
-            used: 0,
-            count: 0,
-        },
-        number: 0,
-    };
+    let mut trial = Trial::under(alloc, base)?;
     let mut wrong = None;
     let mut checks = 0u32;
     for (number, line) in (block.line.saturating_add(1)..).zip(block.lines) {
-        // Up to its comment, without the spaces at its end.
-        let line = line
-            .split(['#', '\n'])
-            .next()
-            .unwrap_or_default()
-            .trim_end_matches(' ');
+        let line = stripped(line);
         if line.is_empty() {
             continue;
         }

@@ -30,10 +30,9 @@ pub(crate) fn changed(
         text.push_str(line)?;
         text.push('\n')?;
     }
-    let left = if let Change::Insert(_) = change {
-        rest
-    } else {
-        after
+    let left = match change {
+        Change::Insert(_) => rest,
+        _ => after,
     };
     text.push_str(&left.concat(alloc)?)?;
     Ok(Some(text))

@@ -10,7 +10,7 @@ pub(crate) enum Check<'a> {
     Memory(usize, &'a [&'a str]),
     Place(Place),
     Number(u32),
-    Changed(u32, Change<'a>, Answer),
+    Changed(usize, Change<'a>, Answer),
 }
 
 #[derive(Clone, Copy)]
@@ -39,6 +39,10 @@ fn after_words(line: &str, words: usize) -> &str {
 }
 
 impl<'a> Check<'a> {
+    fn changed(line: &str, change: Change<'a>, answer: Option<Answer>) -> Option<Check<'a>> {
+        Some(Check::Changed(line.parse().ok()?, change, answer?))
+    }
+
     // A row `line LINE NUMBER TEXT`: with TEXT for that line, a text is refused by that number, or accepted where it is 0. A
     // refusal by 2 to 5 names the bad line, and any other none. Rows `without LINE NUMBER NAMED` and `with LINE NUMBER
     // NAMED TEXT`: where a text lacks that line, or has TEXT before it, reading answers NUMBER and names the line NAMED.
@@ -48,37 +52,17 @@ impl<'a> Check<'a> {
             ["place", slot, used, count] => Some(Check::Place(parse_place(slot, used, count)?)),
             ["number", number] => Some(Check::Number(number.parse().ok()?)),
             ["line", changed, number, ..] => {
-                let changed = changed.parse().ok()?;
-                let number = number.parse().ok()?;
-                let named = if (2..=5).contains(&number) {
-                    changed
-                } else {
-                    0
-                };
+                let names_line = matches!(*number, "2" | "3" | "4" | "5");
+                let named = if names_line { *changed } else { "0" };
                 let change = Change::Replace(after_words(line, 3));
-                Some(Check::Changed(
-                    changed,
-                    change,
-                    Answer {
-                        number,
-                        line: named,
-                    },
-                ))
+                Check::changed(changed, change, Answer::parse(number, named))
             }
             ["without", changed, number, named] => {
-                let answer = Answer {
-                    number: number.parse().ok()?,
-                    line: named.parse().ok()?,
-                };
-                Some(Check::Changed(changed.parse().ok()?, Change::Remove, answer))
+                Check::changed(changed, Change::Remove, Answer::parse(number, named))
             }
             ["with", changed, number, named, ..] => {
-                let answer = Answer {
-                    number: number.parse().ok()?,
-                    line: named.parse().ok()?,
-                };
                 let change = Change::Insert(after_words(line, 4));
-                Some(Check::Changed(changed.parse().ok()?, change, answer))
+                Check::changed(changed, change, Answer::parse(number, named))
             }
             _ => None,
         }

@@ -1,5 +1,5 @@
 // A file of lines and, between them, texts of any bytes.
-ghost use Rattle.std.specs.Prelude.{◌≤◌, ◌<◌, length, IfSome};
+ghost use Rattle.std.specs.Prelude.{◌≡◌, ◌-◌, ◌≤◌, ◌<◌, length, IfSome};
 ghost use Rattle.std.specs.Iterator.{at_most};
 
 use std::str;
@@ -13,7 +13,7 @@ pub struct Lines<'a> {
 impl<'a> Lines<'a> {
     // The next bytes, as many of them as there are.
     pub fn bytes(&mut self, count: usize) -> &'a [u8]
-        ensures { length self.new.rest.now ≤ length self.old.rest.now }
+        ensures { length self.new.rest.now ≡ length self.old.rest.now - count }
     {
         let (text, rest) = self.rest.split_at(count.min(self.rest.len()));
         self.rest = rest;
@@ -33,18 +33,9 @@ impl<'a> Iterator for Lines<'a> {
         if self.rest.is_empty() {
             return None;
         }
-        let line = match self.rest.iter().position(|b| *b == b'\n') {
-            Some(end) => {
-                let line = &self.rest[..end];
-                self.rest = &self.rest[end + 1..];
-                line
-            }
-            None => {
-                let line = self.rest;
-                self.rest = b"";
-                line
-            }
-        };
+        let end = self.rest.iter().position(|b| *b == b'\n');
+        let line = self.bytes(end.unwrap_or(self.rest.len()));
+        self.bytes(1);
         Some(str::from_utf8(line).unwrap_or_default())
     }
 }
