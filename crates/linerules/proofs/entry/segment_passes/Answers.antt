@@ -1,4 +1,4 @@
--- Neither rule applies to the line that would put the segment there.
+-- A segment past the earlier ones overlaps none.
 use mathlib.Core.Path.{sym, ◌∙◌}
 use Rattle.policy.specs.Record.{tables_of}
 use Rattle.policy.specs.Range.{out_of_range}

@@ -1,4 +1,4 @@
--- What is stored is what the line adds, and the bit of its save segment is set.
+-- The bit of its save segment is set.
 use native.Mathlib.Omega.{arith}
 use borrow.Author.Rules.{rules}
 use Rattle.linerules.proofs.Laws.Saves.{saves_stored}

@@ -1,4 +1,4 @@
--- The tests stand in the order of the rules, each on the part of the record that it reads.
+-- A line that rule 4 lets pass ends in memory, and names a segment.
 use mathlib.Core.Path.{sym, ◌∙◌}
 use Rattle.linerules.proofs.Laws.Fits.{range_ends, range_names}
 use Rattle.linerules.proofs.draft.Draft.check.Goals as goal

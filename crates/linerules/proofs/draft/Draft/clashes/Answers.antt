@@ -1,5 +1,4 @@
--- Each kind of line has its own test, which is the definition at that kind; a segment past the earlier ones overlaps none,
--- and the mask answers for the save segments.
+-- A segment past the earlier ones overlaps none, and the mask answers for the save segments.
 use mathlib.Core.Path.{sym, ◌∙◌}
 use native.Mathlib.Omega.{arith}
 use Rattle.policy.specs.Record.{tables_of}

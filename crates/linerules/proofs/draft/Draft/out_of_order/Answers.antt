@@ -1,5 +1,4 @@
--- Each kind of line is asked what the definition asks of it; what it does not ask of a kind is false there. Keys compare by kind, then first
--- number, then second.
+-- Keys compare by kind, then first number, then second: of a pair's kind that is what the definition asks.
 use Prim.Native.Nat.{ℕ}
 use mathlib.Core.Path.{◌≡◌}
 use mathlib.Core.Bool.{◌&&◌, ◌||◌, not, or-false}
