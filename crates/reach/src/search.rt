@@ -13,6 +13,7 @@ pub(crate) fn leads(sources: &[u32], segments: u8, from: u8, to: u8) -> bool
 {
     let mut found = sources[to as usize];
     let mut looked: u32 = 0;
+    // By hand, since it is a work list: which segment is looked at next hangs on what was found.
     while !has_bit(found as u64, from as u32) {
         let left = found ^ looked;
         if left == 0 {
@@ -20,7 +21,7 @@ pub(crate) fn leads(sources: &[u32], segments: u8, from: u8, to: u8) -> bool
         }
         let k = u32::trailing_zeros(left);
         looked = with_low_bit(looked, k);
-        found = found | sources[k as usize];
+        found |= sources[k as usize];
     }
     true
 }

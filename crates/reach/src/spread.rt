@@ -15,25 +15,22 @@ fn taken(row: u32, k: u8, through: u32) -> u32
 // array: those past the last segment are 0 and stay 0. No branch but the loop's, and none left where the compiler knows the
 // array's length: it then takes four rows at once.
 fn spread(rows: &mut [u32], k: u8)
-    requires { (k < 32) × (k < length rows.old) }
+    requires mask { k < 32 }
+    requires there { k < length rows.old }
     ensures { rows.new ≡ spread_to rows.old k (length rows.old) }
 {
-    let through = rows[k as usize];
-    let mut t = 0;
-    while t < rows.len() {
-        let row = rows[t];
-        rows[t] = row | taken(row, k, through);
-        t += 1;
+    let through = rows[usize::from(k)];
+    for row in rows.iter_mut() {
+        *row |= taken(*row, k, through);
     }
 }
 
 pub(crate) fn spread_all(rows: &mut [u32], segments: u8)
-    requires { (segments ≤ 32) × (segments ≤ length rows.old) }
+    requires masks { segments ≤ 32 }
+    requires there { segments ≤ length rows.old }
     ensures { rows.new ≡ spread_up rows.old segments }
 {
-    let mut k: u8 = 0;
-    while k < segments {
+    for k in 0..segments {
         spread(rows, k);
-        k += 1;
     }
 }

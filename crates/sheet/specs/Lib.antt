@@ -1,4 +1,4 @@
--- In reading order: the sheet of a record, what is proved of it, and the slots as the loops are lent them.
+-- In reading order: the sheet of a record, what is proved of it, and what the loops hand on.
 pub mod Answer
 pub mod Shown
 pub mod Slots

@@ -4,8 +4,8 @@ ghost use Rattle.calls.specs.Under.{under_policy};
 ghost use Rattle.sheet.specs.Answer.{sheet_answer};
 
 use crate::Sheet;
-use crate::longest::find_longest;
-use crate::own::add_slots;
+use crate::longest::longest_silences;
+use crate::own::round_of;
 use policy::{NoAnswer, Policy};
 use validate::passes_test;
 
@@ -15,26 +15,8 @@ pub fn sheet_of(policy: &Policy) -> Result<Sheet, NoAnswer>
     if !passes_test(policy) {
         return Err(NoAnswer::Unsound);
     }
-    let mut own = [0u32; 8];
-    let mut ahead = [0u32; 8];
-    let round = add_slots(
-        &policy.owner,
-        &policy.ticks,
-        policy.slots,
-        &mut own,
-        &mut ahead,
-    );
-    let mut silence = [0u32; 8];
-    find_longest(
-        &policy.owner,
-        &policy.ticks,
-        policy.slots,
-        round,
-        &mut ahead,
-        &mut silence,
-    );
-    Ok(Sheet {
-        ticks: own,
-        silence,
-    })
+    let round = round_of(policy);
+    let silence = longest_silences(policy, round);
+    let ticks = round.own;
+    Ok(Sheet { ticks, silence })
 }

@@ -1,36 +1,43 @@
 // One round, from its end backwards: the ticks of each partition, and where its first slot begins.
-ghost use Rattle.std.specs.Prelude.{ℕ, ◌≡◌, get_or, length};
+ghost use Rattle.std.specs.Prelude.{◌≡◌, true};
 ghost use Rattle.policy.specs.Below.{list_below};
-ghost use Rattle.policy.specs.View.{View};
+ghost use Rattle.policy.specs.Limits.{single};
+ghost use Rattle.policy.specs.Record.{tables_of};
 ghost use Rattle.policy.specs.Schedule.{own_ticks, round_ticks};
-ghost use Rattle.sheet.specs.Slots.{Scheduled, Walkable, first_begin};
+ghost use Rattle.policy.specs.Sound.{sound_of};
+ghost use Rattle.policy.specs.Tables.{view_of};
+ghost use Rattle.sheet.specs.Slots.{first_begin};
 
-// Answers the ticks of the round. `ahead` holds, in ticks before the round's end, where the slot begins that each partition has next.
-pub(crate) fn add_slots(
-    owner: &[u8],
-    ticks: &[u16],
-    slots: u8,
-    own: &mut [u32],
-    ahead: &mut [u32],
-) -> u32
-    requires { Walkable owner.now ticks.now slots (length own.old)
-        × (length ahead.old ≡ length own.old)
-        × ((p : ℕ) → get_or own.old p 0 ≡ 0)
-        × ((p : ℕ) → get_or ahead.old p 0 ≡ 0) }
-    ensures { (v : View) → Scheduled v owner.now ticks.now slots →
-        (result ≡ round_ticks v)
-        × (own.new ≡ list_below (length own.old) (own_ticks v))
-        × (ahead.new ≡ list_below (length ahead.old) (first_begin v)) }
+use policy::Policy;
+
+#[derive(Clone, Copy)]
+pub(crate) struct Round {
+    // Of each partition, its ticks.
+    pub(crate) own: [u32; 8],
+    // Of each partition, in ticks before the round's end, where the slot begins that it has next; 0 where it has none.
+    pub(crate) ahead: [u32; 8],
+    pub(crate) ticks: u32,
+}
+
+pub(crate) fn round_of(policy: &Policy) -> Round
+    requires sound { sound_of single (tables_of policy.now) ≡ true }
+    ensures own { result.own ≡ list_below single.partitions (own_ticks (view_of (tables_of policy.now))) }
+    ensures ahead { result.ahead ≡ list_below single.partitions (first_begin (view_of (tables_of policy.now))) }
+    ensures ticks { result.ticks ≡ round_ticks (view_of (tables_of policy.now)) }
 {
+    let mut own = [0u32; 8];
+    let mut ahead = [0u32; 8];
     let mut far: u32 = 0;
-    let mut k = slots as usize;
-    while 0 < k {
-        k -= 1;
-        let p = owner[k] as usize;
-        let more = ticks[k] as u32;
-        far += more;
-        own[p] += more;
-        ahead[p] = far;
+    for slot in (0..usize::from(policy.slots)).rev() {
+        let owner = usize::from(policy.owner[slot]);
+        let ticks = u32::from(policy.ticks[slot]);
+        far += ticks;
+        own[owner] += ticks;
+        ahead[owner] = far;
     }
-    far
+    Round {
+        own,
+        ahead,
+        ticks: far,
+    }
 }

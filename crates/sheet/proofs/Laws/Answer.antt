@@ -1,8 +1,7 @@
--- A sound record's slots can be walked through, and no partition past the last has one, so what the loops find is the sheet.
-use Prim.Native.Nat.{ℕ, ◌<◌, ◌≤◌}
-use mathlib.Core.Path.{◌≡◌, refl, sym, ap, subst, ◌∙◌}
+-- A sound record's slots are of its partitions and its sums of ticks small, and no partition past the last has a slot, so what the loops find is the sheet.
+use Prim.Native.Nat.{ℕ, ◌*◌, ◌<◌, ◌≤◌}
+use mathlib.Core.Path.{◌≡◌, sym, ap, ◌∙◌}
 use mathlib.Core.Bool.{true, false, cond}
-use mathlib.Core.List.{List}
 use native.Mathlib.Omega.{arith}
 use native.Mathlib.Decide.{dec_lt}
 use borrow.Author.Tests.{lt-ltb, le-ltb, ne_eqb}
@@ -10,43 +9,35 @@ use lib.Dec.{ltb}
 use lib.ListN.{length, get_or, get_or-eq_default}
 use Rattle.std.specs.Prelude.{Ok}
 use Rattle.policy.specs.Below.{list_below}
-use Rattle.policy.specs.Limits.{Limits}
+use Rattle.policy.specs.Limits.{Limits, most_ticks}
 use Rattle.policy.specs.View.{View}
 use Rattle.policy.specs.Tables.{Tables, view_of}
 use Rattle.policy.specs.Sound.{sound_of}
-use Rattle.policy.specs.Schedule.{is_booked, has_slot, own_ticks, silence}
-use Rattle.policy.proofs.Entries.{lengths}
+use Rattle.policy.specs.Schedule.{booked, is_booked, has_slot, own_ticks, round_ticks, silence}
 use Rattle.policy.proofs.Lawful.{lawful}
-use Rattle.policy.proofs.Schedule.{no_slot}
+use Rattle.policy.proofs.Schedule.{no_slot, less}
+use Rattle.policy.proofs.Laws.Sums.{sum_most}
+use native.Mathlib.Nat.{mul-le-mul_left}
 use Rattle.policy.proofs.Laws.Below.{none_of}
 use Rattle.policy.proofs.Laws.Lists.{list_same, list_long, list_at}
 use Rattle.calls.specs.Under.{under}
 use Rattle.sheet.specs.Answer.{for_each, sheet_for, sheet_answer}
-use Rattle.sheet.specs.Slots.{Scheduled, Walkable}
-
--- A list of so many numbers, by its own length.
-pub list_own : (n : ℕ) (f : ℕ → ℕ) {l : List ℕ} → l ≡ list_below n f → (length l ≡ n) × (l ≡ list_below (length l) f)
-list_own n f {l} e =
-    let long : length l ≡ n = ap length e ∙ list_long f n in
-    (long, subst (λ n. l ≡ list_below n f) (sym long) e)
-
-pub scheduled : (t : Tables) → Scheduled (view_of t) t.slots.owner t.slots.ticks t.slots.count
-scheduled t = record { count = refl; owners = λ k. refl; lasts = λ k. refl }
 
 module _ (limits : Limits) (t : Tables) (h : sound_of limits t ≡ true) where
   abbrev v : View
   v = view_of t
 
-  pub walkable : Walkable t.slots.owner t.slots.ticks t.slots.count limits.partitions
-  walkable =
+  pub owner_few : (k : ℕ) → k < v.slots → booked v k < limits.partitions
+  owner_few k l = omega (arith, (lawful limits t h).owner_there k l, (lawful limits t h).few_partitions)
+
+  -- No sum of ticks is above the most of all slots.
+  pub round_few : round_ticks v ≤ most_ticks * limits.slots
+  round_few =
       let w = lawful limits t h in
-      record {
-        some_slot = w.some_slot;
-        owner_long = rw (lengths limits t h).owner w.few_slots;
-        ticks_long = rw (lengths limits t h).ticks w.few_slots;
-        owner_few = λ k l. omega (arith, w.owner_there k l, w.few_partitions);
-        ticks_few = λ k l. w.ticks_most k l;
-      }
+      omega (arith, sum_most v.ticks v.slots w.ticks_most, mul-le-mul_left most_ticks w.few_slots)
+
+  pub own_few : (p : ℕ) → own_ticks v p ≤ most_ticks * limits.slots
+  own_few p = omega (arith, less v p, round_few)
 
   past_none : (p : ℕ) → t.partitions.count ≤ p → has_slot v p ≡ false
   past_none p l =

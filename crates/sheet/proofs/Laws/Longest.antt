@@ -1,6 +1,6 @@
 -- Backwards through a round, the longest of the gaps behind a partition's own slots is the longest of all gaps: a gap that begins between two own
 -- slots lies in the one that begins behind the first of them.
-use Prim.Native.Nat.{ℕ, ◌+◌, ◌*◌, ◌-◌, ◌<◌, ◌≤◌, max}
+use Prim.Native.Nat.{ℕ, ◌+◌, ◌-◌, ◌<◌, ◌≤◌, max}
 use mathlib.Core.Path.{◌≡◌, refl, sym, ap, subst, ◌∙◌}
 use mathlib.Core.Bool.{Bool, true, false, cond, true≢false}
 use mathlib.Core.List.{List}
@@ -10,15 +10,14 @@ use native.Mathlib.Decide.{dec_lt}
 use borrow.Author.Tests.{eq-eqb, ne_eqb}
 use lib.ListN.{get_or, length, set}
 use Rattle.policy.specs.Below.{most_below, list_below}
-use Rattle.policy.specs.Limits.{most_ticks}
 use Rattle.policy.specs.View.{View}
 use Rattle.policy.specs.Schedule.{ticks_before, round_ticks, booked, is_booked, has_slot, gap_from, silence}
 use Rattle.policy.proofs.Laws.Below.{some_found, some_at}
-use Rattle.policy.proofs.Laws.Lists.{list_at, list_is}
-use Rattle.policy.proofs.Laws.Sums.{sum_more, sum_most, most_least, most_within}
+use Rattle.policy.proofs.Laws.Lists.{list_at, list_is, list_long}
+use Rattle.policy.proofs.Laws.Sums.{sum_more, most_least, most_within}
 use Rattle.policy.proofs.Laws.Rounds.{slot_first, slot_second, gap_enough}
 use Rattle.policy.proofs.Schedule.{gap_less}
-use Rattle.sheet.specs.Slots.{Scheduled, first_begin}
+use Rattle.sheet.specs.Slots.{first_begin}
 use Rattle.sheet.proofs.Laws.Walk.{gap_over, over_other, each_set, ahead_more}
 
 module _ (v : View) where
@@ -127,40 +126,34 @@ module _ (v : View) where
     pub ahead_is : (p : ℕ) → p < length ahead → get_or ahead p 0 + gap_over v n p k ≡ far
     pub holds : (p : ℕ) → p < length longest → Held k p (get_or longest p 0)
 
-  module _ {owner ticks : List ℕ} {count : ℕ} (s : Scheduled v owner ticks count) where
-    pub walked_none : (round : ℕ) (ahead longest : List ℕ) → 0 < count → round ≡ round_ticks v →
-        ahead ≡ list_below (length ahead) (first_begin v) → ((p : ℕ) → get_or longest p 0 ≡ 0) → Walked count round ahead longest
-    walked_none round ahead longest some e f z =
-        let there : 0 < n = rw s.count some in
-        subst (λ k. Walked k round ahead longest) s.count
-        (record {
-          far_is = omega (arith, e);
-          ahead_is = λ p l.
-              let at : get_or ahead p 0 ≡ first_begin v p = ap (λ l. get_or l p 0) f ∙ list_at (first_begin v) (length ahead) p 0 l in
-              omega (arith, e, at, over_end p there, gap_less v p 0 there);
-          holds = λ p l. rw (z p) (held_none p);
-        })
+  pub walked_none : (m : ℕ) (ahead longest : List ℕ) → 0 < n → ahead ≡ list_below m (first_begin v) →
+      ((p : ℕ) → get_or longest p 0 ≡ 0) → Walked n (round_ticks v) ahead longest
+  walked_none m ahead longest some f z =
+      record {
+        far_is = refl;
+        ahead_is = λ p l.
+            let long : length ahead ≡ m = ap length f ∙ list_long (first_begin v) m in
+            let at : get_or ahead p 0 ≡ first_begin v p = ap (λ l. get_or l p 0) f ∙ list_at (first_begin v) m p 0 (rw long at l) in
+            omega (arith, at, over_end p some, gap_less v p 0 some);
+        holds = λ p l. rw (z p) (held_none p);
+      }
 
-    pub walked_more : (k far new : ℕ) (ahead longest : List ℕ) → k < count → get_or owner k 0 < length ahead → get_or owner k 0 < length longest →
-        Walked (k + 1) far ahead longest → new ≡ max (get_or longest (get_or owner k 0) 0) (far - get_or ahead (get_or owner k 0) 0) →
-        Walked k (far + get_or ticks k 0) (set ahead (get_or owner k 0) (far + get_or ticks k 0)) (set longest (get_or owner k 0) new)
-    walked_more k far new ahead longest l a b h e =
-        let there : k < n = rw s.count l in
-        let gap : far - get_or ahead (get_or owner k 0) 0 ≡ gap_over v n (get_or owner k 0) (k + 1) = omega (arith, h.ahead_is (get_or owner k 0) a) in
-        rw (e, gap, ← s.owners k, ← s.lasts k)
-        (record {
-          far_is = omega (arith, h.far_is, sum_more v.ticks k);
-          ahead_is = ahead_more v k there n far ahead (rw (s.owners k) a) h.ahead_is;
-          holds = held_more k there longest (rw (s.owners k) b) h.holds;
-        })
+  pub walked_more : (k far new : ℕ) (ahead longest : List ℕ) → k < n → booked v k < length ahead → booked v k < length longest →
+      (j : ℕ) → j ≡ k + 1 → Walked j far ahead longest → new ≡ max (get_or longest (booked v k) 0) (far - get_or ahead (booked v k) 0) →
+      Walked k (far + v.ticks k) (set ahead (booked v k) (far + v.ticks k)) (set longest (booked v k) new)
+  walked_more k far new ahead longest l a b j next held e =
+      let h : Walked (k + 1) far ahead longest = subst (λ j. Walked j far ahead longest) next held in
+      let gap : far - get_or ahead (booked v k) 0 ≡ gap_over v n (booked v k) (k + 1) = omega (arith, h.ahead_is (booked v k) a) in
+      rw (e, gap)
+      (record {
+        far_is = omega (arith, h.far_is, sum_more v.ticks k);
+        ahead_is = ahead_more v k l n far ahead a h.ahead_is;
+        holds = held_more k l longest b h.holds;
+      })
 
-    -- The sums stay small.
-    pub far_below : {k far : ℕ} {ahead longest : List ℕ} → Walked k far ahead longest → ((k : ℕ) → k < count → get_or ticks k 0 ≤ most_ticks) →
-        (j : ℕ) → k ≡ j + 1 → far + get_or ticks j 0 ≤ most_ticks * count + most_ticks * count
-    far_below {k} {far} h few j e =
-        let all : round_ticks v ≤ most_ticks * n = sum_most v.ticks n (λ i l. rw (s.lasts i) (few i (rw s.count at l))) in
-        let here : far + ticks_before v (j + 1) ≡ round_ticks v + round_ticks v = rw e at h.far_is in
-        omega (arith, all, here, sum_more v.ticks j, s.lasts j, s.count)
+  -- The sums stay small.
+  pub far_below : (k j : ℕ) {far : ℕ} {ahead longest : List ℕ} → j ≡ k + 1 → Walked j far ahead longest → far + v.ticks k ≤ round_ticks v + round_ticks v
+  far_below k j next h = omega (arith, h.far_is, ap (ticks_before v) next, sum_more v.ticks k)
 
   pub walked_all : (far : ℕ) (ahead longest : List ℕ) → 0 < n → Walked 0 far ahead longest → longest ≡ list_below (length longest) (silence v)
   walked_all far ahead longest some h = list_is longest (silence v) (λ p l. held_all p (get_or longest p 0) some (h.holds p l))

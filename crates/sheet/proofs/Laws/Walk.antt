@@ -1,7 +1,7 @@
 -- Backwards through the slots, one at a time: what the loops hold of each partition.
-use Prim.Native.Nat.{ℕ, suc, ◌+◌, ◌-◌, ◌<◌}
+use Prim.Native.Nat.{ℕ, suc, ◌+◌, ◌-◌, ◌<◌, ◌≤◌}
 use mathlib.Core.Path.{◌≡◌, refl, sym, subst, ◌∙◌}
-use mathlib.Core.Bool.{false, cond}
+use mathlib.Core.Bool.{cond}
 use mathlib.Core.List.{List}
 use native.Mathlib.Nat.{zero-add, sub-zero}
 use native.Mathlib.Omega.{arith}
@@ -15,28 +15,7 @@ use Rattle.policy.specs.Schedule.{ticks_before, round_ticks, booked, is_booked, 
 use Rattle.policy.proofs.Laws.Lists.{list_is}
 use Rattle.policy.proofs.Laws.Sums.{sum_more}
 use Rattle.policy.proofs.Laws.Rounds.{slot, slot_first, slot_after_lem}
-use Rattle.sheet.specs.Slots.{Scheduled, first_begin}
-
--- A policy with these slots and nothing else: it gives the bounds of the sums.
-abbrev pub lent : List ℕ → List ℕ → ℕ → View
-lent owner ticks count =
-    record {
-      segments = 0;
-      partitions = 0;
-      slots = count;
-      base = λ s. 0;
-      size = λ s. 0;
-      code = λ p. 0;
-      save = λ p. 0;
-      owner = λ k. get_or owner k 0;
-      ticks = λ k. get_or ticks k 0;
-      reads = λ p s. false;
-      writes = λ p s. false;
-      flow = λ s t. false;
-    }
-
-pub lent_scheduled : (owner ticks : List ℕ) (count : ℕ) → Scheduled (lent owner ticks count) owner ticks count
-lent_scheduled owner ticks count = record { count = refl; owners = λ k. refl; lasts = λ k. refl }
+use Rattle.sheet.specs.Slots.{first_begin}
 
 -- An entry of each partition, where one slot's partition has got another.
 pub each_set : (P : ℕ → ℕ → Type 0) (l : List ℕ) (q n : ℕ) → q < length l → P q n → ((p : ℕ) → (p ≡ q → ⊥) → p < length l → P p (get_or l p 0)) →
@@ -101,9 +80,9 @@ module _ (v : View) where
     pub own_is : (p : ℕ) → p < length own → get_or own p 0 + sum_below k (ticks_for v p) ≡ own_ticks v p
     pub ahead_is : (p : ℕ) → p < length ahead → get_or ahead p 0 + gap_over 0 p k ≡ far
 
-  none_added : (own ahead : List ℕ) → ((p : ℕ) → get_or own p 0 ≡ 0) → ((p : ℕ) → get_or ahead p 0 ≡ 0) → Added slots 0 own ahead
+  pub added_none : (own ahead : List ℕ) → ((p : ℕ) → get_or own p 0 ≡ 0) → ((p : ℕ) → get_or ahead p 0 ≡ 0) → Added slots 0 own ahead
   unfolding own_ticks gap_from
-  none_added own ahead h g =
+  added_none own ahead h g =
       let none : slots - slots ≡ 0 = omega arith in
       record {
         far_is = zero-add (round_ticks v);
@@ -111,22 +90,27 @@ module _ (v : View) where
         ahead_is = λ p l. rw (g p, none, zero-add);
       }
 
-  module _ {owner ticks : List ℕ} {count : ℕ} (s : Scheduled v owner ticks count) where
-    pub added_none : (own ahead : List ℕ) → ((p : ℕ) → get_or own p 0 ≡ 0) → ((p : ℕ) → get_or ahead p 0 ≡ 0) → Added count 0 own ahead
-    added_none own ahead h g = subst (λ k. Added k 0 own ahead) s.count (none_added own ahead h g)
+  module _ (k far : ℕ) (own ahead : List ℕ) (l : k < slots) (a : booked v k < length own) (b : booked v k < length ahead)
+      (j : ℕ) (next : j ≡ k + 1) (held : Added j far own ahead) where
+    h : Added (k + 1) far own ahead
+    h = subst (λ j. Added j far own ahead) next held
 
-    pub added_more : (k far : ℕ) (own ahead : List ℕ) → k < count → get_or owner k 0 < length own → get_or owner k 0 < length ahead →
-        Added (k + 1) far own ahead →
-        Added k (far + get_or ticks k 0) (set own (get_or owner k 0) (get_or own (get_or owner k 0) 0 + get_or ticks k 0))
-        (set ahead (get_or owner k 0) (far + get_or ticks k 0))
-    added_more k far own ahead l a b h =
-        let there : k < slots = rw s.count l in
-        rw (← s.owners k, ← s.lasts k)
-        (record {
+    pub added_more : Added k (far + v.ticks k) (set own (booked v k) (get_or own (booked v k) 0 + v.ticks k)) (set ahead (booked v k) (far + v.ticks k))
+    added_more =
+        record {
           far_is = omega (arith, h.far_is, sum_more v.ticks k);
-          own_is = own_more k there own (rw (s.owners k) a) h.own_is;
-          ahead_is = ahead_more k there 0 far ahead (rw (s.owners k) b) h.ahead_is;
-        })
+          own_is = own_more k l own a h.own_is;
+          ahead_is = ahead_more k l 0 far ahead b h.ahead_is;
+        }
+
+    -- The sums stay small.
+    pub far_small : far + v.ticks k ≤ round_ticks v
+    far_small = omega (arith, added_more.far_is)
+
+    pub own_small : get_or own (booked v k) 0 + v.ticks k ≤ own_ticks v (booked v k)
+    own_small =
+        let mine : ticks_for v (booked v k) k ≡ v.ticks k = rw (eq-eqb (booked v k) (booked v k) refl) in
+        omega (arith, mine, h.own_is (booked v k) a, sum_more (ticks_for v (booked v k)) k)
 
   -- The whole round.
   module _ {far : ℕ} {own ahead : List ℕ} (h : Added 0 far own ahead) where

@@ -14,7 +14,7 @@ pub spread_all-requires : goal.spread_all-requires
 spread_all-requires c =
     let t = tables_of c.args.policy.now in
     let sound = sym c.passes_test.ensures ∙ c.if-not-passes_test.false in
-    (few single t sound, wide single t sound)
+    record { masks = few single t sound; there = wide single t sound }
 
 pub returns : goal.returns
 unfolding reach_answer
