@@ -1,11 +1,10 @@
 // The answer to a question: whether one segment can reach another.
 ghost use Rattle.std.specs.Prelude.{◌+◌, ◌≤◌, ◌<◌, ◌≡◌, length};
-ghost use Rattle.std.proofs.lemmas.List.Edits.{sets};
 ghost use Rattle.policy.specs.Limits.{single};
 ghost use Rattle.policy.specs.Record.{tables_of};
 ghost use Rattle.calls.specs.Under.{under_policy};
 ghost use Rattle.reach.specs.Answers.{can_reach_answer};
-ghost use Rattle.writing.specs.Writer.{Adds, room};
+ghost use Rattle.writing.specs.Writer.{Adds, Filled, room};
 ghost use Rattle.reaching.specs.Question.{answer_line, question_of, reach_line};
 
 use crate::words::words_in;
@@ -42,9 +41,7 @@ fn put_answer(out: &mut Writer<'_>, policy: &Policy, from: u32, to: u32)
 // Writes the answer about a text to the question that words ask, as the fields of a line, whatever they are, from the buffer's start
 // on, and answers how many bytes it has.
 pub fn answer_on(text: &[u8], words: &[u8], out: &mut [u8; 3424]) -> usize
-    ensures { (result ≡ length (question_of single text.now words.now))
-        × (result ≤ 3424)
-        × (out.new ≡ sets out.old 0 (question_of single text.now words.now)) }
+    ensures { Filled (question_of single text.now words.now) 3424 out.old out.new result }
 {
     let Some(asked) = words_in(words) else {
         let mut writer = Writer::new(out);

@@ -1,6 +1,5 @@
 // The report: a line for each segment.
 ghost use Rattle.std.specs.Prelude.{◌+◌, ◌≤◌, ◌<◌, ◌≡◌, true, get_or, length};
-ghost use Rattle.std.proofs.lemmas.List.Edits.{sets};
 ghost use Rattle.bits.specs.Masks.{has};
 ghost use Rattle.policy.specs.Below.{list_below};
 ghost use Rattle.policy.specs.Limits.{single};
@@ -8,7 +7,7 @@ ghost use Rattle.policy.specs.Record.{tables_of};
 ghost use Rattle.policy.specs.Sound.{sound_of};
 ghost use Rattle.policy.specs.Tables.{view_of};
 ghost use Rattle.reach.specs.Rows.{report_of, those_below};
-ghost use Rattle.writing.specs.Writer.{Adds, room};
+ghost use Rattle.writing.specs.Writer.{Adds, Filled, room};
 ghost use Rattle.reaching.specs.Report.{reach_report_of, segment_line, segment_lines};
 
 use bits::has_bit;
@@ -35,9 +34,7 @@ fn put_line(out: &mut Writer<'_>, t: u8, row: u32, segments: u8)
 // The lines of a sound record, from the buffer's start on. The longest report has 32 lines of 107 bytes.
 fn put_lines(policy: &Policy, out: &mut [u8; 3424]) -> usize
     requires { sound_of single (tables_of policy.now) ≡ true }
-    ensures { (result ≡ length (segment_lines 0 (report_of (view_of (tables_of policy.now)))))
-        × (result ≤ 3424)
-        × (out.new ≡ sets out.old 0 (segment_lines 0 (report_of (view_of (tables_of policy.now))))) }
+    ensures { Filled (segment_lines 0 (report_of (view_of (tables_of policy.now)))) 3424 out.old out.new result }
 {
     let rows = reach(policy).unwrap();
     let mut writer = Writer::new(out);
@@ -49,9 +46,7 @@ fn put_lines(policy: &Policy, out: &mut [u8; 3424]) -> usize
 
 // Writes the report on a text, whatever it is, from the buffer's start on, and answers how many bytes it has.
 pub fn report_on(text: &[u8], out: &mut [u8; 3424]) -> usize
-    ensures { (result ≡ length (reach_report_of single text.now))
-        × (result ≤ 3424)
-        × (out.new ≡ sets out.old 0 (reach_report_of single text.now)) }
+    ensures { Filled (reach_report_of single text.now) 3424 out.old out.new result }
 {
     match reader::read(text) {
         Ok(policy) => put_lines(&policy, out),

@@ -1,7 +1,7 @@
 // The words that a question is asked with.
 ghost use Rattle.std.specs.Prelude.{◌+◌, ◌≤◌, ◌≡◌, [], ◌∷◌, ◌++◌, length};
-ghost use Rattle.std.proofs.lemmas.List.Edits.{sets};
 ghost use Rattle.text.specs.Cut.{tab, line_end};
+ghost use Rattle.writing.specs.Writer.{Filled};
 ghost use Rattle.reaching.specs.Question.{words_of};
 
 use fields::{read_inner, read_last};
@@ -31,9 +31,7 @@ pub fn words_in(words: &[u8]) -> Option<Words>
 // The words of a question, as the fields of a line.
 pub fn put_words(out: &mut [u8], from: &[u8], to: &[u8]) -> usize
     requires { length from.now + length to.now + 2 ≤ length out.old }
-    ensures { (result ≡ length (from.now ++ tab ∷ (to.now ++ line_end ∷ [])))
-        × (result ≤ length out.new)
-        × (out.new ≡ sets out.old 0 (from.now ++ tab ∷ (to.now ++ line_end ∷ []))) }
+    ensures { Filled (from.now ++ tab ∷ (to.now ++ line_end ∷ [])) (length out.new) out.old out.new result }
 {
     let mut writer = Writer::new(out);
     writer.put_word(from);

@@ -1,12 +1,11 @@
 // The whole report: of an accepted text its first row and a row for each segment, of a refused text one row.
 ghost use Rattle.std.specs.Prelude.{◌≡◌, ◌≤◌, ◌<◌, length, Err};
-ghost use Rattle.std.proofs.lemmas.List.Edits.{sets};
 ghost use Rattle.policy.specs.Tables.{view_of};
 ghost use Rattle.policy.specs.Refusals.{line_number_of};
 ghost use Rattle.policy.specs.Record.{tables_of, answer_of};
 ghost use Rattle.report.specs.Report.{accepted_row, segment_rows, accepted_report, refused_row, report_of_reading};
 ghost use Rattle.report.specs.Reportable.{Countable, Reportable};
-ghost use Rattle.writing.specs.Writer.{Adds, room};
+ghost use Rattle.writing.specs.Writer.{Adds, Filled, room};
 
 use crate::masks::users_of;
 use policy::{Policy, Refusal};
@@ -43,8 +42,7 @@ fn put_segments(out: &mut Writer<'_>, policy: &Policy)
 // The longest has 23 + 32 * 19 = 631 bytes.
 fn put_accepted(policy: &Policy, out: &mut [u8; 640]) -> usize
     requires { Countable (view_of (tables_of policy.now)) }
-    ensures { (result ≡ length (accepted_report (view_of (tables_of policy.now))))
-        × (out.new ≡ sets out.old 0 (accepted_report (view_of (tables_of policy.now)))) }
+    ensures { Filled (accepted_report (view_of (tables_of policy.now))) 640 out.old out.new result }
 {
     let mut writer = Writer::new(out);
     put_counts(&mut writer, policy);
@@ -55,7 +53,7 @@ fn put_accepted(policy: &Policy, out: &mut [u8; 640]) -> usize
 // At most 17 bytes.
 pub fn put_refused(refusal: Refusal, out: &mut [u8]) -> usize
     requires { (line_number_of (Err refusal) < 100000) × (17 ≤ length out.old) }
-    ensures { (result ≡ length (refused_row (Err refusal))) × (out.new ≡ sets out.old 0 (refused_row (Err refusal))) }
+    ensures { Filled (refused_row (Err refusal)) 17 out.old out.new result }
 {
     let mut writer = Writer::new(out);
     writer.put_row(b"refused", &[refusal.number(), refusal.line()]);
@@ -64,8 +62,7 @@ pub fn put_refused(refusal: Refusal, out: &mut [u8]) -> usize
 
 pub fn write_report(reading: Result<Policy, Refusal>, out: &mut [u8; 640]) -> usize
     requires { Reportable (answer_of reading) }
-    ensures { (result ≡ length (report_of_reading (answer_of reading)))
-        × (out.new ≡ sets out.old 0 (report_of_reading (answer_of reading))) }
+    ensures { Filled (report_of_reading (answer_of reading)) 640 out.old out.new result }
 {
     match reading {
         Ok(policy) => put_accepted(&policy, out),

@@ -2,11 +2,11 @@
 #![tactic(auto)]
 
 ghost use Rattle.std.specs.Prelude.{◌≤◌, ◌≡◌, true, length};
-ghost use Rattle.std.proofs.lemmas.List.Edits.{sets};
 ghost use Rattle.policy.specs.Limits.{single};
 ghost use Rattle.policy.specs.Record.{tables_of};
 ghost use Rattle.policy.specs.Sound.{sound_of};
 ghost use Rattle.policy.specs.Tables.{view_of};
+ghost use Rattle.writing.specs.Writer.{Filled};
 ghost use Rattle.sheeting.specs.Lines.{sheet_of, sheet_report_of};
 
 use policy::Policy;
@@ -18,9 +18,7 @@ use writing::Writer;
 // The sheet of a sound record, from the buffer's start on. The longest has 8 lines of 24 bytes, and 12 for the round.
 fn put_sheet(policy: &Policy, out: &mut [u8; 204]) -> usize
     requires { sound_of single (tables_of policy.now) ≡ true }
-    ensures { (result ≡ length (sheet_of (view_of (tables_of policy.now))))
-        × (result ≤ 204)
-        × (out.new ≡ sets out.old 0 (sheet_of (view_of (tables_of policy.now)))) }
+    ensures { Filled (sheet_of (view_of (tables_of policy.now))) 204 out.old out.new result }
 {
     let sheet = sheet_of(policy).unwrap();
     let mut writer = Writer::new(out);
@@ -33,9 +31,7 @@ fn put_sheet(policy: &Policy, out: &mut [u8; 204]) -> usize
 
 // Writes the sheet of a text, whatever it is, from the buffer's start on, and answers how many bytes it has.
 pub fn sheet_on(text: &[u8], out: &mut [u8; 204]) -> usize
-    ensures { (result ≡ length (sheet_report_of single text.now))
-        × (result ≤ 204)
-        × (out.new ≡ sets out.old 0 (sheet_report_of single text.now)) }
+    ensures { Filled (sheet_report_of single text.now) 204 out.old out.new result }
 {
     match reader::read(text) {
         Ok(policy) => put_sheet(&policy, out),

@@ -1,5 +1,6 @@
--- What a call adds to what a writer has written.
-use Rattle.std.specs.Prelude.{ℕ, ◌≡◌, List, ◌++◌, length, take, drop}
+-- What a call adds to what a writer has written, and what a report leaves.
+use Rattle.std.specs.Prelude.{ℕ, ◌≡◌, ◌≤◌, List, ◌++◌, length, take, drop}
+use Rattle.std.proofs.lemmas.List.Edits.{sets}
 use Rattle.writing.specs.declared.writer.Writer.{Writer}
 
 abbrev pub written : Writer → List ℕ
@@ -16,3 +17,7 @@ pub record Adds (before : Writer) (bytes : List ℕ) (after : Writer) : Type 0 w
   pub same_buffer : after.out.ghost_name ≡ before.out.ghost_name
   pub text : written after ≡ written before ++ bytes
   pub untouched : rest after ≡ drop (length bytes) (rest before)
+
+-- A report in a lent buffer: it begins with these bytes, at most so many, and a call answers how many; behind them it is as it was.
+abbrev pub Filled : List ℕ → ℕ → List ℕ → List ℕ → ℕ → Type 0
+Filled bytes most before after count = (count ≡ length bytes) × (count ≤ most) × (after ≡ sets before 0 bytes)

@@ -1,26 +1,19 @@
 -- What reading a text gives whoever writes of it: a refusal's line is short, and an accepted text's record is sound.
-use Prim.Native.Nat.{ℕ, ◌≤◌, ◌<◌}
+use Prim.Native.Nat.{ℕ, ◌<◌}
 use mathlib.Core.Path.{◌≡◌, sym, ap, ◌∙◌}
 use mathlib.Core.Bool.{true}
 use mathlib.Core.List.{List}
 use native.Mathlib.Omega.{arith}
-use lib.ListN.{length}
 use Rattle.policy.specs.Limits.{single}
 use Rattle.policy.specs.Refusals.{is_accepted, line_number_of}
 use Rattle.policy.specs.Read.{Answer, read_of}
 use Rattle.policy.specs.Sound.{sound_of}
 use Rattle.policy.proofs.Accepted.{accepted}
 use Rattle.policy.proofs.Readings.{line_named, accepted_sound}
-use Rattle.report.specs.Report.{refused_row}
-use Rattle.report.proofs.Laws.Rows.{refused_length, number_small}
 
 module _ (text : List ℕ) {a : Answer} (read : a ≡ read_of single text) where
   pub named_short : line_number_of a.refusal < 100000
   named_short = rw (ap (λ a. line_number_of a.refusal) read) (omega (arith, line_named single text))
-
-  pub refused_fits : length (refused_row a.refusal) ≤ 17
-  unfolding refused_row
-  refused_fits = refused_length _ _ (number_small a.refusal) named_short
 
   pub sound_read : is_accepted a.refusal ≡ true → sound_of single a.tables ≡ true
   sound_read h =

@@ -1,9 +1,9 @@
 -- Each turn adds the line of one partition, of at most 24 bytes; the round's line ends the sheet.
-use Rattle.std.proofs.Common.{◌≡◌, ◌<◌, length, get_or, ap, ◌∙◌, arith, add-one}
+use Rattle.std.proofs.Common.{◌≡◌, ◌<◌, length, get_or, ap, arith, add-one}
 use Rattle.policy.specs.Limits.{single}
 use Rattle.policy.specs.Record.{tables_of}
 use Rattle.policy.proofs.Lawful.{lawful}
-use Rattle.writing.proofs.Laws.Writer.{adds_none, adds_then, adds_whole, room_left}
+use Rattle.writing.proofs.Laws.Writer.{adds_none, adds_then, adds_filled, room_left}
 use Rattle.sheet.proofs.Laws.Answer.{sheet_ok}
 use Rattle.sheeting.specs.Lines.{partition_lines}
 use Rattle.sheeting.proofs.Laws.Lines.{sheet_is, line_short, round_short, round_small, own_small, silence_small, sheet_short, rows_short, ticks_are, silence_are}
@@ -59,6 +59,4 @@ returns c =
     let end : c.loop-p.p ≡ t.partitions.count = omega arith in
     let rows = rw end at c.loop-p.invariant in
     let round = rw c.round_ticks.ensures at c.put_row-2.ensures in
-    let short = sheet_short t c.requires in
-    let all = adds_whole c.new-writer.ensures.nothing_written (adds_then rows round) (omega arith) in
-    (c.len.ensures ∙ ap length all.0, omega (arith, c.len.ensures ∙ ap length all.0), all.1)
+    adds_filled 204 c.new-writer.ensures.nothing_written (adds_then rows round) (sheet_short t c.requires) (omega arith) c.len.ensures

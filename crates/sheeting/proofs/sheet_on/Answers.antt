@@ -1,7 +1,7 @@
 -- A refused text's one line; of an accepted one the sheet of its record, which is sound.
 use mathlib.Core.Path.{refl}
 use native.Mathlib.Omega.{arith}
-use Rattle.report.proofs.Laws.Reading.{named_short, refused_fits, sound_read}
+use Rattle.report.proofs.Laws.Reading.{named_short, sound_read}
 use Rattle.sheeting.proofs.Laws.Lines.{sheet_refused, sheet_accepted}
 use Rattle.sheeting.proofs.sheet_on.Goals as goal
 
@@ -17,4 +17,4 @@ put_refused-requires c = (named_short _ c.in-Err.ensures, omega arith)
 pub returns-in-Err : goal.returns-in-Err
 returns-in-Err c =
     let row = c.put_refused.ensures in
-    rw (sheet_refused _ c.in-Err.ensures refl) (row.0, omega (arith, row.0, refused_fits _ c.in-Err.ensures), row.1)
+    rw (sheet_refused _ c.in-Err.ensures refl) (row.0, omega (arith, row.1), row.2)

@@ -2,9 +2,9 @@
 use Rattle.std.proofs.Common.{◌≡◌, ℕ, ◌-◌, ◌≤◌, List, [], ◌++◌, length, drop, refl, sym, ap, ◌∙◌, append_assoc, arith}
 use Rattle.std.proofs.lemmas.List.{append-nil, drop-drop, length-append, length-drop, take-append-drop}
 use native.Mathlib.Nat.{zero-add}
-use Rattle.std.proofs.lemmas.List.Edits.{sets, sets-eq}
+use Rattle.std.proofs.lemmas.List.Edits.{sets-eq}
 use Rattle.writing.specs.declared.writer.Writer.{Writer}
-use Rattle.writing.specs.Writer.{written, rest, room, Adds}
+use Rattle.writing.specs.Writer.{written, rest, room, Adds, Filled}
 
 pub adds_none : (w : Writer) → Adds w [] w
 adds_none w = record { same_buffer = refl; text = sym (append-nil _); untouched = refl }
@@ -21,10 +21,11 @@ adds_then {u} {v} {w} {a} {b} first second =
 pub room_left : {u v : Writer} {a : List ℕ} → Adds u a v → room v ≡ room u - length a
 room_left {u} {v} {a} added = ap length added.untouched ∙ length-drop (length a) (rest u)
 
--- From the buffer's start on: all that is written, and the buffer with it.
-pub adds_whole : {u v : Writer} {l b : List ℕ} → (written u ≡ []) × (rest u ≡ l) → Adds u b v → length b ≤ length l →
-    (written v ≡ b) × (v.out.now ≡ sets l 0 b)
-adds_whole {u} {v} {l} {b} start added fits =
+-- From the buffer's start on: all that is written fills the buffer, where it fits.
+pub adds_filled : {u v : Writer} {l b : List ℕ} {n : ℕ} (most : ℕ) → (written u ≡ []) × (rest u ≡ l) → Adds u b v →
+    length b ≤ most → most ≤ length l → n ≡ length (written v) → Filled b most l v.out.now n
+adds_filled {u} {v} {l} {b} most start added fits long e =
     let text : written v ≡ b = added.text ∙ rw start.0 in
     let behind : rest v ≡ drop (length b) l = added.untouched ∙ rw start.1 in
-    (text, sym (take-append-drop v.at v.out.now) ∙ rw (text, behind, ← zero-add (length b)) (sym (sets-eq b l 0 (omega arith))))
+    let count = e ∙ ap length text in
+    (count, omega (arith, count), sym (take-append-drop v.at v.out.now) ∙ rw (text, behind, ← zero-add (length b)) (sym (sets-eq b l 0 (omega arith))))

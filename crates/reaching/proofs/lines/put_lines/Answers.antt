@@ -9,7 +9,7 @@ use Rattle.calls.specs.Under.{under}
 use Rattle.reach.specs.Answers.{rows_shown}
 use Rattle.reach.proofs.Agrees.{reach_ok, masks_report}
 use Rattle.reaching.specs.Report.{segment_lines}
-use Rattle.writing.proofs.Laws.Writer.{adds_none, adds_then, adds_whole, room_left}
+use Rattle.writing.proofs.Laws.Writer.{adds_none, adds_then, adds_filled, room_left}
 use Rattle.reaching.proofs.Laws.Lines.{line_more, rows_short}
 use Rattle.reaching.proofs.lines.put_lines.Goals as goal
 
@@ -39,8 +39,7 @@ returns c =
     let end : c.loop-t.t ≡ n = omega arith in
     let few = (lawful single t c.requires).few_segments in
     let short = rows_short c.unwrap-rows.result n n few few in
-    let all = adds_whole c.new-writer.ensures.nothing_written (rw end at c.loop-t.invariant) (omega arith) in
     let rows : rows_shown (under single t) ≡ c.unwrap-rows.result =
     ap (λ a. result_unwrap_or a (replicate 32 0)) (sym c.reach.ensures ∙ c.unwrap-rows.ensures) in
     rw (← masks_report single t c.requires, rows)
-    (c.len.ensures ∙ ap length all.0, omega (arith, c.len.ensures ∙ ap length all.0), all.1)
+    (adds_filled 3424 c.new-writer.ensures.nothing_written (rw end at c.loop-t.invariant) (omega arith) (omega arith) c.len.ensures)

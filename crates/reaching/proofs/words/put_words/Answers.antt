@@ -1,7 +1,7 @@
 -- One part after another, which the buffer has room for.
-use Rattle.std.proofs.Common.{length, ap, ◌∙◌, arith, rules}
+use Rattle.std.proofs.Common.{length, ap, arith, rules}
 use lib.ListN.{length-append}
-use Rattle.writing.proofs.Laws.Writer.{adds_then, adds_whole, room_left}
+use Rattle.writing.proofs.Laws.Writer.{adds_then, adds_filled, room_left}
 use Rattle.reaching.proofs.words.put_words.Goals as goal
 
 pub put_word-requires-2 : goal.put_word-requires-2
@@ -15,5 +15,6 @@ put_byte-requires-2 c =
 pub returns : goal.returns
 returns c =
     let line = adds_then c.put_word.ensures (adds_then c.put_byte.ensures (adds_then c.put_word-2.ensures c.put_byte-2.ensures)) in
-    let all = adds_whole c.new-writer.ensures.nothing_written line (simp length-append (omega arith)) in
-    (c.len.ensures ∙ ap length all.0, search rules, search (rules, all.1))
+    let most = length c.args.out.now in
+    let all = adds_filled most c.new-writer.ensures.nothing_written line (simp length-append (omega arith)) (omega arith) c.len.ensures in
+    (all.0, search rules, search (rules, all.2))

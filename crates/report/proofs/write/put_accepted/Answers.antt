@@ -1,6 +1,6 @@
 -- The first row, and then those of the segments.
-use Rattle.std.proofs.Common.{length, ap, ◌∙◌, arith}
-use Rattle.writing.proofs.Laws.Writer.{adds_then, adds_whole, room_left}
+use Rattle.std.proofs.Common.{length, ap, arith}
+use Rattle.writing.proofs.Laws.Writer.{adds_then, adds_filled, room_left}
 use Rattle.report.proofs.Laws.Rows.{accepted_length, accepted_fits}
 use Rattle.report.proofs.write.put_accepted.Goals as goal
 
@@ -10,5 +10,4 @@ put_segments-requires c = (c.requires, omega (arith, room_left c.put_counts.ensu
 pub returns : goal.returns
 returns c =
     let rows = adds_then c.put_counts.ensures c.put_segments.ensures in
-    let all = adds_whole c.new-writer.ensures.nothing_written rows (omega (arith, accepted_fits _ c.requires)) in
-    (c.len.ensures ∙ ap length all.0, all.1)
+    adds_filled 640 c.new-writer.ensures.nothing_written rows (accepted_fits _ c.requires) (omega arith) c.len.ensures

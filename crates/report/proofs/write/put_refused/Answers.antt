@@ -1,9 +1,9 @@
 -- The row of the refusal's number and line.
-use Rattle.std.proofs.Common.{length, ap, ◌∙◌, arith, rules}
+use Rattle.std.proofs.Common.{length, ap, arith, rules}
 use Rattle.std.specs.Prelude.{Err}
 use Rattle.policy.specs.Refusals.{Verdict}
 use Rattle.report.specs.Report.{refused_row}
-use Rattle.writing.proofs.Laws.Writer.{adds_whole}
+use Rattle.writing.proofs.Laws.Writer.{adds_filled}
 use Rattle.report.proofs.Laws.Rows.{number_small, refused_length}
 use Rattle.report.proofs.write.put_refused.Goals as goal
 
@@ -19,5 +19,5 @@ returns c =
     let r : Verdict = Err c.args.refusal in
     let row = rw (c.number.ensures, c.line.ensures) at c.put_row.ensures in
     let fits = refused_length _ _ (number_small r) c.requires.0 in
-    let all = adds_whole c.new-writer.ensures.nothing_written row (omega (arith, fits, c.requires.1)) in
-    (c.len.ensures ∙ ap length all.0, search (rules, all.1))
+    let all = adds_filled 17 c.new-writer.ensures.nothing_written row fits c.requires.1 c.len.ensures in
+    (all.0, all.1, search (rules, all.2))

@@ -1,5 +1,6 @@
 -- Either report, by what reading answered.
 use borrow.Author.Rules.{rules}
+use native.Mathlib.Omega.{arith}
 use Rattle.report.specs.Report.{report_with}
 use Rattle.report.proofs.write.write_report.Goals as goal
 
@@ -15,4 +16,6 @@ returns-in-Ok c = rw c.in-Ok.is c.put_accepted.ensures
 
 pub returns-in-Err : goal.returns-in-Err
 unfolding report_with
-returns-in-Err c = rw c.in-Err.is c.put_refused.ensures
+returns-in-Err c =
+    let row = c.put_refused.ensures in
+    rw c.in-Err.is (row.0, omega (arith, row.1), row.2)
