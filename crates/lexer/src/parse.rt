@@ -1,30 +1,32 @@
 // A whole line, field by field, by the fields that its record word has; it is left at the first that is malformed.
 ghost use Rattle.std.specs.Prelude.{◌<◌, ◌≤◌, ◌≡◌, length};
-ghost use Rattle.text.specs.Lines.{line_of};
+ghost use Rattle.text.specs.Lines.{line_of, line_of_kind};
+ghost use Rattle.text.specs.Number.{number};
 ghost use Rattle.text.specs.Readers.{line_read};
 ghost use Rattle.text.specs.Rest.{rest_read, line_taken};
 
 use fields::{read_inner, read_last, read_letters, read_word};
 use text::{Cursor, Kind, Line, LineRead};
 
-// What a line says, and nothing if it is bad. Each kind has a number first, so one reader in the machine code serves all.
-fn take_line(text: &[u8], place: &mut Cursor) -> Option<Line>
-    ensures { line_taken result place.new.at place.old.line ≡ rest_read line_of text.now place.old }
+// What the fields after a record word say. The last of them ends its line.
+fn take_fields(text: &[u8], place: &mut Cursor, kind: Kind) -> Option<Line>
+    ensures { line_taken result place.new.at place.old.line ≡ rest_read (line_of_kind number kind) text.now place.old }
 {
-    let kind = read_word(text, place)?;
-    let first = read_inner(text, place)?;
-    match (kind, first) {
-        (Kind::Segment, id) => {
+    match kind {
+        Kind::Segment => {
+            let id = read_inner(text, place)?;
             let base = read_inner(text, place)?;
             let size = read_last(text, place)?;
             Some(Line::Segment { id, base, size })
         }
-        (Kind::Partition, id) => {
+        Kind::Partition => {
+            let id = read_inner(text, place)?;
             let code = read_inner(text, place)?;
             let save = read_last(text, place)?;
             Some(Line::Partition { id, code, save })
         }
-        (Kind::Right, partition) => {
+        Kind::Right => {
+            let partition = read_inner(text, place)?;
             let segment = read_inner(text, place)?;
             let mode = read_letters(text, place)?;
             Some(Line::Right {
@@ -33,15 +35,24 @@ fn take_line(text: &[u8], place: &mut Cursor) -> Option<Line>
                 mode,
             })
         }
-        (Kind::Flow, from) => {
+        Kind::Flow => {
+            let from = read_inner(text, place)?;
             let to = read_last(text, place)?;
             Some(Line::Flow { from, to })
         }
-        (Kind::Slot, partition) => {
+        Kind::Slot => {
+            let partition = read_inner(text, place)?;
             let ticks = read_last(text, place)?;
             Some(Line::Slot { partition, ticks })
         }
     }
+}
+
+fn take_line(text: &[u8], place: &mut Cursor) -> Option<Line>
+    ensures { line_taken result place.new.at place.old.line ≡ rest_read line_of text.now place.old }
+{
+    let kind = read_word(text, place)?;
+    take_fields(text, place, kind)
 }
 
 // The line at a place of a text: what it says, Bad also where it has no end, and the place after it.

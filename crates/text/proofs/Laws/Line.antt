@@ -11,14 +11,12 @@ use Rattle.text.proofs.Laws.Readers.{nothing, rest_bad, inner_read_lem, inner_no
 use Rattle.text.proofs.Laws.Forward.{field_same}
 use Rattle.text.specs.Cut.{tab, line_end}
 use Rattle.text.specs.Lines.{next_field, last, word_of, line_of_kind, line_of}
-use Rattle.text.specs.Lines.{segment_line, partition_line, right_line, flow_line, slot_line}
 use Rattle.text.specs.Number.{number}
 use Rattle.text.specs.Places.{end_at}
 use Rattle.text.specs.Readers.{Found, word_read, field_read, inner_read, line_at, line_found, line_read}
-use Rattle.text.specs.Rest.{fields_from, rest_read}
+use Rattle.text.specs.Rest.{fields_from, rest_read, line_taken}
 use Rattle.text.specs.declared.line.Cursor.{Cursor}
 use Rattle.text.specs.declared.line.Kind.{Kind}
-use Rattle.text.specs.declared.line.Kind.TheVariants.{Segment as OfSegment, Partition as OfPartition, Right as OfRight, Flow as OfFlow, Slot as OfSlot}
 use Rattle.text.specs.declared.line.Line.{Line}
 use Rattle.text.specs.declared.line.Line.TheVariants.{Bad, Segment, Partition, Right, Flow, Slot}
 
@@ -28,35 +26,19 @@ module _ (text : List ℕ) (c : Cursor) where
     pub kind_none : w.said ≡ None → nothing ≡ rest_read line_of text c
     kind_none e = sym (word_says text c is ∙ rw e (rest_bad text w.next))
 
-    module _ {k : Kind} (known : w.said ≡ Some k) where
-      pub kind_bad : nothing ≡ rest_read (line_of_kind number k) text w.next → nothing ≡ rest_read line_of text c
-      kind_bad f = f ∙ sym (word_says text c is ∙ rw known)
-
-      pub kind_read :
-          {said : Line} {past : ℕ}
-          → record { line = said; next = record { at = past; line = w.next.line + 1 } } ≡ rest_read (line_of_kind number k) text w.next
-          → record { line = said; next = record { at = past; line = c.line + 1 } } ≡ rest_read line_of text c
-      kind_read {said} {past} f =
-          let same : w.next.line ≡ c.line = ap (λ r. r.next.line) is ∙ field_same text c word_of tab in
-          ap (λ (n : ℕ). record { line = said; next = record { at = past; line = n + 1 } }) (sym same)
-          ∙ f
-          ∙ sym (word_says text c is ∙ rw known)
+    pub kind_read :
+        {k : Kind} (said : Option Line) (past : ℕ) → w.said ≡ Some k
+        → line_taken said past w.next.line ≡ rest_read (line_of_kind number k) text w.next
+        → line_taken said past c.line ≡ rest_read line_of text c
+    kind_read said past e f =
+        let same : w.next.line ≡ c.line = ap (λ r. r.next.line) is ∙ field_same text c word_of tab in
+        ap (λ (n : ℕ). line_taken said past n) (sym same) ∙ f ∙ sym (word_says text c is ∙ rw e)
 
   -- The first of some fields is no number.
-  first_none :
+  pub first_none :
       (more : ℕ → List (List ℕ) → Line) → ((n : ℕ) → more n [] ≡ Bad) → {p : Found ℕ} → p ≡ inner_read text c
       → p.said ≡ None → nothing ≡ rest_read (λ fs. next_field number fs more) text c
   first_none more h is e = sym (inner_none text c number more is h e)
-
-  -- Each kind has a number first, and something after it.
-  pub kind_first :
-      (kind : Kind) {p : Found ℕ} → p ≡ inner_read text c → p.said ≡ None → nothing ≡ rest_read (line_of_kind number kind) text c
-  unfolding segment_line partition_line right_line flow_line slot_line
-  kind_first OfSegment is e = first_none _ (λ n. refl) is e
-  kind_first OfPartition is e = first_none _ (λ n. refl) is e
-  kind_first OfRight is e = first_none _ (λ n. refl) is e
-  kind_first OfFlow is e = first_none _ (λ n. refl) is e
-  kind_first OfSlot is e = first_none _ (λ n. refl) is e
 
   -- Two fields, a number and one that is read so and ends the line.
   module _
