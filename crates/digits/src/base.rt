@@ -1,6 +1,6 @@
 // The two ways to write a number, as a loop over digits needs them.
 ghost use Rattle.std.specs.Prelude.{◌≡◌, ℕ, refl};
-ghost use Rattle.text.specs.Digits.{IsWorth};
+ghost use Rattle.text.specs.Digits.{digit_worth};
 ghost use Rattle.text.specs.Number.{Notation, ten, sixteen};
 
 pub(crate) trait Base {
@@ -15,9 +15,9 @@ pub(crate) trait Base {
 
     const MOST: usize;
 
-    // What a byte is worth as a digit, below the base just if it is one.
-    fn worth(b: u8) -> u32
-        ensures { IsWorth form b result };
+    // What a byte is worth, if it is a digit.
+    fn worth(b: u8) -> Option<u32>
+        ensures { result ≡ digit_worth form b };
 
     ghost is_base: { form.base ≡ BASE };
 
@@ -38,8 +38,9 @@ impl Base for Ten {
     const MOST: usize = 5;
 
     // The difference wraps around below "0", so that one test tells a digit.
-    fn worth(b: u8) -> u32 {
-        (b as u32).wrapping_sub(48)
+    fn worth(b: u8) -> Option<u32> {
+        let d = (b as u32).wrapping_sub(48);
+        if d < 10 { Some(d) } else { None }
     }
 
     ghost is_base = { refl };
@@ -60,14 +61,14 @@ impl Base for Sixteen {
 
     const MOST: usize = 4;
 
-    fn worth(b: u8) -> u32 {
+    fn worth(b: u8) -> Option<u32> {
         if (b'0' <= b) & (b <= b'9') {
-            return (b - b'0') as u32;
+            return Some((b - b'0') as u32);
         }
         if (b'a' <= b) & (b <= b'f') {
-            return 10 + (b - b'a') as u32;
+            return Some(10 + (b - b'a') as u32);
         }
-        16
+        None
     }
 
     ghost is_base = { refl };

@@ -11,14 +11,13 @@ pub(crate) fn digits_from<B: Base>(text: &[u8], from: usize) -> Digits
     let mut value: u32 = 0;
     for i in from..text.len() {
         let b = text[i];
-        let d = B::worth(b);
-        if B::BASE <= d {
+        let Some(d) = B::worth(b) else {
             return Digits {
                 value,
                 end: i,
                 stop: b,
             };
-        }
+        };
         value = value.wrapping_mul(B::BASE).wrapping_add(d);
     }
     Digits {

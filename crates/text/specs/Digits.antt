@@ -1,5 +1,5 @@
 -- The digits that stand at a place, however many, and those of a number there: decimal ones, or hexadecimal ones past 0x.
-use Rattle.std.specs.Prelude.{◌≡◌, ℕ, ◌+◌, ◌%◌, ◌<◌, ◌≤◌, Bool, true, false, ◌&&◌, cond, List, [], ◌∷◌, eqb, length, drop, get_or, Option, Some, None}
+use Rattle.std.specs.Prelude.{ℕ, ◌+◌, ◌%◌, Bool, ◌&&◌, cond, List, [], ◌∷◌, eqb, length, drop, get_or, Option, Some, None}
 use Rattle.text.specs.declared.read.Digits.{Digits}
 use Rattle.text.specs.declared.read.NumberDigits.{NumberDigits}
 use Rattle.text.specs.Number.{Notation, ten, sixteen, value_from}
@@ -19,10 +19,9 @@ digits_read form text from =
       stop = get_or (drop from text) (length digits) 0;
     }
 
--- What a byte is taken to be worth: below the base it is a digit of this worth, from the base on it is none.
-pub record IsWorth (form : Notation) (b d : ℕ) : Type 0 where
-  pub digit : d < form.base → (form.is_digit b ≡ true) × (form.worth b ≡ d)
-  pub other : form.base ≤ d → form.is_digit b ≡ false
+-- What a byte is worth, if it is a digit.
+unfoldable pub digit_worth : Notation → ℕ → Option ℕ
+digit_worth form b = cond (form.is_digit b) (Some (form.worth b)) None
 
 -- Digits from a place on, as those of a number; none if another byte than this ends them.
 abbrev pub of_number : Notation → ℕ → Digits → NumberDigits

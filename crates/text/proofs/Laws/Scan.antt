@@ -1,22 +1,40 @@
 -- The digits from a place on, one more at a time: what a loop over them knows. And what the code's tests of a byte say of
 -- it as a digit.
-use Prim.Native.Nat.{ℕ, ◌+◌, ◌*◌, ◌%◌, ◌<◌, ◌≤◌}
+use Prim.Native.Nat.{ℕ, ◌+◌, ◌-◌, ◌*◌, ◌%◌, ◌<◌, ◌≤◌}
 use mathlib.Core.Path.{◌≡◌, refl, sym, ◌∙◌, ap}
-use mathlib.Core.Bool.{Bool, true, false, ◌&&◌, true≢false}
+use mathlib.Core.Bool.{Bool, true, false, ◌&&◌, true≢false, and-false}
 use mathlib.Core.List.{List}
 use native.Mathlib.Numerals.{add-one}
 use native.Mathlib.Nat.{add-zero, suc-add, add-suc, mod-eq_of_lt, mod-add-mod}
 use native.Mathlib.Omega.{arith}
-use borrow.Author.Tests.{eq-eqb, ne_eqb, eqb-true}
+use native.Mathlib.Decide.{dec_lt}
+use borrow.Author.Tests.{le-leb, lt-leb, eq-eqb, ne_eqb, eqb-true}
 use lib.Dec.{eqb}
 use lib.ListN.{length, drop, get_or, drop_of_length-le}
 use lib.Seq.{drop-cons}
-use Rattle.std.specs.Prelude.{Some, None}
+use Rattle.std.specs.Prelude.{cond, Option, Some, None}
 use Rattle.text.proofs.Laws.Numbers.{value_mod}
 use Rattle.text.proofs.Laws.Stops.{parts}
-use Rattle.text.specs.Digits.{digits_in, digits_read, IsWorth, of_number, as_number, marks, number_digits}
+use Rattle.text.specs.Digits.{digits_in, digits_read, digit_worth, of_number, as_number, marks, number_digits}
 use Rattle.text.specs.declared.read.Digits.{Digits}
-use Rattle.text.specs.Number.{Notation, ten, sixteen, value_from}
+use Rattle.text.specs.Number.{Notation, ten, sixteen, zero_to_nine, value_from}
+
+module _ (form : Notation) (b : ℕ) where
+  worth_none : digit_worth form b ≡ None → form.is_digit b ≡ false
+  unfolding digit_worth
+  worth_none = go (form.is_digit b)
+    where
+      go : (t : Bool) → cond t (Some (form.worth b)) None ≡ None → t ≡ false
+      go true q = cc
+      go false q = refl
+
+  worth_some : {d : ℕ} → digit_worth form b ≡ Some d → (form.is_digit b ≡ true) × (form.worth b ≡ d)
+  unfolding digit_worth
+  worth_some {d} = go (form.is_digit b)
+    where
+      go : (t : Bool) → cond t (Some (form.worth b)) None ≡ Some d → (t ≡ true) × (form.worth b ≡ d)
+      go true q = (refl, cc)
+      go false q = (cc, cc)
 
 module _ (form : Notation) where
   -- The digits from a place on, after some that wrote v.
@@ -39,20 +57,38 @@ module _ (form : Notation) where
     unfolding digits_on digits_in value_from
     on_past s h = rw (drop_of_length-le text h, mod-eq_of_lt s, add-zero)
 
-    -- By what the byte is taken to be worth.
-    module _ {d : ℕ} (is : IsWorth form byte d) {base : ℕ} (b : form.base ≡ base) (h : i < length text) where
+    -- By what the byte is worth.
+    module _ {said : Option ℕ} (told : said ≡ digit_worth form byte) (h : i < length text) where
       pub on_other :
-          v < 4294967296 → base ≤ d → digits_on v i (drop i text) ≡ record { value = v; end = i; stop = byte }
+          v < 4294967296 → said ≡ None → digits_on v i (drop i text) ≡ record { value = v; end = i; stop = byte }
       unfolding digits_on digits_in value_from
-      on_other s k = rw (drop-cons text i 0 h, is.other (omega arith), mod-eq_of_lt s, add-zero)
+      on_other s k = rw (drop-cons text i 0 h, worth_none form byte (sym told ∙ k), mod-eq_of_lt s, add-zero)
 
       pub on_more :
-          {bound : ℕ} → form.base ≡ bound → d < bound
+          {d base : ℕ} → said ≡ Some d → form.base ≡ base
           → digits_on v i (drop i text) ≡ digits_on ((v * base % 4294967296 + d) % 4294967296) (i + 1) (drop (i + 1) text)
       unfolding digits_on digits_in value_from
-      on_more e k =
-          let known = is.digit (omega arith) in
+      on_more k b =
+          let known = worth_some form byte (sym told ∙ k) in
           rw (← b, ← known.1, drop-cons text i 0 h, add-one i, known.0, mod-add-mod, value_mod, suc-add, add-suc)
+
+-- A byte is a decimal digit just if the difference from "0", which wraps around, is below 10.
+module _ (b : ℕ) (small : b < 256) where
+  abbrev d : ℕ
+  d = (b + 4294967248) % 4294967296
+
+  pub ten_worth : d < 10 → Some d ≡ digit_worth ten b
+  unfolding digit_worth
+  ten_worth h =
+      let e : d ≡ b - 0x30 = omega arith in rw (le-leb 0x30 b (omega arith), le-leb b 0x39 (omega arith), e)
+
+  pub ten_other : 10 ≤ d → None ≡ digit_worth ten b
+  unfolding digit_worth
+  ten_other h = go (dec_lt b 0x30)
+    where
+      go : Dec (b < 0x30) → None ≡ cond (zero_to_nine b) (Some (b - 0x30)) None
+      go (yes e) = rw (lt-leb 0x30 b e)
+      go (no e) = rw (lt-leb b 0x39 (omega arith), and-false)
 
 -- The digits of the number at a place, by the decimal ones there.
 module _ (end : ℕ) (text : List ℕ) (from : ℕ) {d : Digits} (e : d ≡ digits_read ten text from) where

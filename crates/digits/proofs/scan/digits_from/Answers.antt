@@ -6,23 +6,20 @@ use Rattle.digits.proofs.scan.digits_from.Goals as goal
 pub loop-i-init : goal.loop-i-init
 loop-i-init g c = (on_begin g.B.Base.form _ _, omega arith)
 
-pub returns-then-BASE-d : goal.returns-then-BASE-d
-returns-then-BASE-d g c =
-    let base = g.met.B.Base.is_base ∙ sym c.BASE.ensures in
+pub returns-in_default : goal.returns-in_default
+returns-in_default g c =
     sym
     (c.loop-i.invariant.0
-    ∙ on_other g.B.Base.form c.args.text.now c.loop-i.value c.loop-i.i c.worth-d.ensures base c.loop-i-test.true
-    (omega (arith, c.loop-i.auto.value-fits)) c.if-BASE-d.true)
+    ∙ on_other g.B.Base.form c.args.text.now c.loop-i.value c.loop-i.i c.worth.ensures c.loop-i-test.true
+    (omega (arith, c.loop-i.auto.value-fits)) c.in_default.is)
 
 pub loop-i-preserved : goal.loop-i-preserved
-loop-i-preserved g c =
-    let base = g.met.B.Base.is_base ∙ sym c.BASE-in-loop-i.ensures in
-    let bound = g.met.B.Base.is_base ∙ sym c.BASE.ensures in (
-      c.loop-i.invariant.0
-          ∙ on_more g.B.Base.form c.args.text.now c.loop-i.value c.loop-i.i c.worth-d.ensures base c.loop-i-test.true bound
-          c.if-BASE-d.false,
-      omega arith,
-    )
+loop-i-preserved g c = (
+  c.loop-i.invariant.0
+      ∙ on_more g.B.Base.form c.args.text.now c.loop-i.value c.loop-i.i c.worth.ensures c.loop-i-test.true c.in-Some.is
+      (g.met.B.Base.is_base ∙ sym c.BASE.ensures),
+  omega arith,
+)
 
 pub returns : goal.returns
 returns g c =
