@@ -8,7 +8,8 @@ ghost use Rattle.text.specs.Rest.{rest_read, line_taken};
 use fields::{read_inner, read_last, read_letters, read_word};
 use text::{Cursor, Kind, Line, LineRead};
 
-// What the fields after a record word say. The last of them ends its line.
+// What the fields after a record word say. The last of them ends its line. Each kind has a number first, and reads it in its own
+// arm all the same: read for all at once, before the arms, a text takes a tenth more instructions.
 fn take_fields(text: &[u8], place: &mut Cursor, kind: Kind) -> Option<Line>
     ensures { line_taken result place.new.at place.old.line ≡ rest_read (line_of_kind number kind) text.now place.old }
 {
