@@ -8,12 +8,13 @@ use machine::Instr;
 use octets::entry_or;
 
 // An opcode past the table is no instruction, whatever its operands.
+#[tactic(auto, unfolding(machine::specs::Decode::instruction_of))]
 fn instruction(op: u8, a: u8, b: u8, c: u8) -> Option<Instr>
     ensures { result ≡ instruction_of last_opcode op a b c }
 {
-    let ra = a as u32;
-    let rb = b as u32;
-    let rc = c as u32;
+    let ra = u32::from(a);
+    let rb = u32::from(b);
+    let rc = u32::from(c);
     // Made before the match: its two bytes are then one load.
     let n = rb + 256 * rc;
     match op {
@@ -44,13 +45,10 @@ const REGISTERS: [u8; 16] = [0, 1, 7, 7, 7, 7, 7, 3, 3, 1, 0, 0, 0, 3, 3, 1];
 fn mask_of(op: u8) -> u8
     ensures { result ≡ get_or register_masks op 0 }
 {
-    let i = op as usize;
-    if i < 16 {
-        return REGISTERS[i];
-    }
-    0
+    REGISTERS.get(usize::from(op)).copied().unwrap_or(0)
 }
 
+#[tactic(auto, unfolding(machine::specs::Decode::operands_fit, machine::specs::Decode::operand_fits))]
 fn operands_fit(mask: u8, a: u8, b: u8, c: u8) -> bool
     ensures { result ≡ operands_fit mask a b c }
 {
@@ -60,6 +58,7 @@ fn operands_fit(mask: u8, a: u8, b: u8, c: u8) -> bool
     first & (second & third)
 }
 
+#[tactic(auto, unfolding(machine::specs::Decode::decode_of))]
 fn tested(op: u8, a: u8, b: u8, c: u8) -> Option<Instr>
     ensures { result ≡ decode_of last_opcode op a b c }
 {
@@ -72,6 +71,7 @@ fn tested(op: u8, a: u8, b: u8, c: u8) -> Option<Instr>
 
 // The instruction of four bytes; a bad opcode or register is another answer. Each opcode is passed on as a constant:
 // indexed by it, the table folds away in the compiled code, and so does the second match.
+#[tactic(auto, using(machine::proofs::Laws::Opcodes::decode_above))]
 pub fn decode(op: u8, a: u8, b: u8, c: u8) -> Option<Instr>
     ensures { result ≡ decode_of last_opcode op a b c }
 {
@@ -97,6 +97,7 @@ pub fn decode(op: u8, a: u8, b: u8, c: u8) -> Option<Instr>
 }
 
 // The instruction at a place of the code segment, which is lent.
+#[tactic(auto, unfolding(machine::specs::Decode::fetched))]
 pub fn fetch(code: &[u8], at: u16) -> Option<Instr>
     ensures { result ≡ fetched last_opcode code.now at }
 {

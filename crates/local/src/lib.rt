@@ -2,7 +2,7 @@
 // is handed the counter, and hands back the counter after it; the bytes hold it too.
 #![tactic(auto)]
 
-ghost use Rattle.std.specs.Prelude.{◌≡◌, ◌+◌, ◌-◌, ◌%◌, ◌<◌, ◌≤◌, length};
+ghost use Rattle.std.specs.Prelude.{◌≡◌, ◌+◌, ◌%◌, ◌<◌, ◌≤◌, length};
 ghost use Rattle.policy.specs.Limits.{save_size};
 ghost use Rattle.machine.specs.Save.{counter};
 ghost use Rattle.machine.specs.Local.{jumps, waits, comes_back, acts_on};
@@ -14,13 +14,7 @@ use octets::{get_half, get_word_in, put, put_half};
 use savearea::layout::{COUNTER, ENABLED, HANDLER, IN_HANDLER, RETURN, STATE, State};
 use savearea::{advance, asking, fault, in_handler, put_result};
 
-// The library says of a difference what it sums to; this says what it is.
-fn minus(x: u32, y: u32) -> u32
-    ensures { result ≡ (x + (4294967296 - y)) % 4294967296 }
-{
-    std::num::wrapping_sub_u32(x, y)
-}
-
+#[tactic(auto, unfolding(machine::specs::Local::jumps), using(savearea::proofs::Laws::Counters::counter_put))]
 fn jump(s: &mut [u8], a: u32, n: u32, pc: u16) -> u16
     requires { (pc ≡ counter s.old) × (save_size ≤ length s.old) × (a < 8) }
     ensures { (s.new ≡ jumps s.old a n) × (result ≡ counter s.new) }
@@ -33,6 +27,7 @@ fn jump(s: &mut [u8], a: u32, n: u32, pc: u16) -> u16
     }
 }
 
+#[tactic(auto, unfolding(machine::specs::Local::waits), using(savearea::proofs::Laws::Counters::counter_behind, savearea::proofs::Laws::Counters::counter_put))]
 fn wait(s: &mut [u8], pc: u16) -> u16
     requires { (pc ≡ counter s.old) × (save_size ≤ length s.old) }
     ensures { (s.new ≡ waits s.old) × (result ≡ counter s.new) }
@@ -47,6 +42,7 @@ fn wait(s: &mut [u8], pc: u16) -> u16
     }
 }
 
+#[tactic(auto, unfolding(machine::specs::Local::comes_back), using(savearea::proofs::Laws::Counters::counter_behind, savearea::proofs::Laws::Counters::counter_put))]
 fn back(s: &mut [u8], pc: u16) -> u16
     requires { (pc ≡ counter s.old) × (save_size ≤ length s.old) }
     ensures { (s.new ≡ comes_back s.old) × (result ≡ counter s.new) }
@@ -64,6 +60,7 @@ fn back(s: &mut [u8], pc: u16) -> u16
 
 // One instruction at a count of ticks; a load or a store, which are lent more than these bytes, changes nothing here.
 // It hands on the counter, and 65,536 more where lines, handler or state may have changed, so that the next tick asks.
+#[tactic(auto, unfolding(machine::specs::Local::acts_on))]
 pub fn act(s: &mut [u8], count: u32, pc: u16, i: Instr) -> u32
     requires { (pc ≡ counter s.old) × (save_size ≤ length s.old) × Named i }
     ensures { (s.new ≡ acts_on s.old count i) × Hands result s.old s.new }
@@ -75,11 +72,11 @@ pub fn act(s: &mut [u8], count: u32, pc: u16, i: Instr) -> u32
         }
         Instr::Set(a, n) => put_result(s, a, n, pc) as u32,
         Instr::Add(a, b, c) => {
-            let x = std::num::wrapping_add_u32(get_word_in(s, b), get_word_in(s, c));
+            let x = get_word_in(s, b).wrapping_add(get_word_in(s, c));
             put_result(s, a, x, pc) as u32
         }
         Instr::Sub(a, b, c) => {
-            let x = minus(get_word_in(s, b), get_word_in(s, c));
+            let x = get_word_in(s, b).wrapping_sub(get_word_in(s, c));
             put_result(s, a, x, pc) as u32
         }
         Instr::And(a, b, c) => {

@@ -1,7 +1,7 @@
 -- The test on the in-handler byte picks the same side as the definition; the state lies behind the counter.
-use Rattle.std.proofs.Common.{sym, ◌∙◌, arith}
+use Rattle.std.proofs.Common.{sym, ◌∙◌}
 use Rattle.machine.specs.Local.{waits}
-use Rattle.savearea.proofs.Laws.Counters.{counter_behind, counter-faults}
+use Rattle.savearea.proofs.Laws.Counters.{counter-faults}
 use Rattle.local.proofs.wait.Goals as goal
 
 pub returns-then-in_handler : goal.returns-then-in_handler
@@ -11,13 +11,3 @@ returns-then-in_handler c =
     let e = c.fault.ensures in
     let start = test in
     (rw (← test.in_handler.ensures, test.if-in_handler.true) e, rw e (start.requires.0 ∙ sym (counter-faults _ _)))
-
-pub returns-else-in_handler : goal.returns-else-in_handler
-unfolding waits
-returns-else-in_handler c =
-    let put = c in
-    let advance = put in
-    let test = advance in (
-      rw (← test.in_handler.ensures, test.if-in_handler.false, put.put.ensures, advance.advance-next.ensures.0),
-      rw put.put.ensures (advance.advance-next.ensures.1 ∙ sym (counter_behind _ 34 _ (omega arith))),
-    )

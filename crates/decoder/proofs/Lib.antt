@@ -1,2 +1,0 @@
--- That an opcode past the table is no instruction.
-pub mod Laws
