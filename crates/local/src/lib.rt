@@ -27,7 +27,7 @@ fn jump(s: &mut [u8], a: u32, n: u32, pc: u16) -> u16
     }
 }
 
-#[tactic(auto, unfolding(machine::specs::Local::waits), using(savearea::proofs::Laws::Counters::counter_behind, savearea::proofs::Laws::Counters::counter_put))]
+#[tactic(auto, unfolding(machine::specs::Local::waits), using(savearea::proofs::Laws::Counters::counter_behind))]
 fn wait(s: &mut [u8], pc: u16) -> u16
     requires { (pc ≡ counter s.old) × (save_size ≤ length s.old) }
     ensures { (s.new ≡ waits s.old) × (result ≡ counter s.new) }
@@ -42,7 +42,6 @@ fn wait(s: &mut [u8], pc: u16) -> u16
     }
 }
 
-#[tactic(auto, unfolding(machine::specs::Local::comes_back), using(savearea::proofs::Laws::Counters::counter_behind, savearea::proofs::Laws::Counters::counter_put))]
 fn back(s: &mut [u8], pc: u16) -> u16
     requires { (pc ≡ counter s.old) × (save_size ≤ length s.old) }
     ensures { (s.new ≡ comes_back s.old) × (result ≡ counter s.new) }
