@@ -54,7 +54,11 @@ pub(crate) fn query(policy: &Policy, from: u32, to: u32) -> (u32, bool) {
 // The ticks of each partition, and the longest silence of each.
 pub(crate) fn sheet(policy: &Policy) -> (u32, [u32; 8], [u32; 8]) {
     match sheet::sheet_of(policy) {
-        Ok(sheet) => (0, sheet.ticks, sheet.silence),
+        Ok(sheet) => {
+            let ticks = sheet.ticks;
+            let silence = sheet.silence;
+            (0, ticks, silence)
+        }
         Err(why) => (u32::from(why), [0; 8], [0; 8]),
     }
 }
