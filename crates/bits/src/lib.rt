@@ -8,4 +8,4 @@ mod wide;
 
 pub use bit::{has_bit, with_low_bit, worth};
 pub use set::{bit_at, bit_of, bits_below, within};
-pub use wide::widen;
+pub use wide::{widen, widened};

@@ -1,5 +1,5 @@
-// One entry of a slice, and all of them.
-ghost use Rattle.std.specs.Prelude.{◌≡◌, get_or, length, replicate, set};
+// One entry of a slice.
+ghost use Rattle.std.specs.Prelude.{◌≡◌, get_or, set};
 
 // The entry at a place, and `none` past the end.
 pub fn entry_or<T: Copy>(s: &[T], at: usize, none: T) -> T
@@ -15,11 +15,4 @@ pub fn put(s: &mut [u8], at: usize, b: u8)
     if at < s.len() {
         s[at] = b;
     }
-}
-
-// Every byte becomes 0.
-pub fn clear(s: &mut [u8])
-    ensures { s.new ≡ replicate (length s.old) 0 }
-{
-    s.fill(0);
 }

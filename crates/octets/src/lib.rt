@@ -5,7 +5,7 @@
 mod entry;
 mod number;
 
-pub use entry::{clear, entry_or, put};
+pub use entry::{entry_or, put};
 pub use number::{
     get_half, get_word_in, low, put_half, put_word, put_word_at, put_word_in, word_at,
 };

@@ -8,7 +8,7 @@ ghost use Rattle.policy.specs.Whole.{code_unreadable};
 ghost use Rattle.wholerules.specs.Parts.{view_of_parts};
 
 use crate::parts::Parts;
-use bits::{bit_at, widen};
+use bits::{bit_at, widened};
 use policy::{Policy, Refusal};
 
 impl Parts<'_> {
@@ -45,16 +45,16 @@ pub fn lent_refusal(parts: &Parts) -> Result<(), Refusal>
 }
 
 // The same of a record, whose masks of 32 bits are the same numbers as masks of 64. In place in both callers, since a call
-// costs as much as widening. `narrow` hands on from `widen` what the types of the masks say.
+// costs as much as widening. `narrow` hands on from `widened` what the types of the masks say.
 #[inline(always)]
 pub fn record_refusal(policy: &Policy) -> Result<(), Refusal>
     requires { (policy.now.segments ≤ 32) × (policy.now.partitions ≤ 8) }
     ensures refusal { result ≡ whole_refusal (view_of (tables_of policy.now)) }
     ensures narrow { AllUnder 32 policy.now.reads × AllUnder 32 policy.now.writes × AllUnder 32 policy.now.sources }
 {
-    let reads = widen(&policy.reads);
-    let writes = widen(&policy.writes);
-    let sources = widen(&policy.sources);
+    let reads = widened(&policy.reads);
+    let writes = widened(&policy.writes);
+    let sources = widened(&policy.sources);
     lent_refusal(&Parts {
         segments: policy.segments,
         partitions: policy.partitions,

@@ -6,11 +6,11 @@ use lib.Seq.{ext_get_or}
 use Rattle.bits.proofs.wide.widen.Goals as goal
 
 pub returns-clause-same : goal.returns-clause-same
-returns-clause-same g c = ext_get_or 0 _ _ c.loop-i.invariant.long (λ j k. c.loop-i.invariant.same j (omega arith))
+returns-clause-same c = ext_get_or 0 _ _ (c.loop-i.invariant.long) (λ j k. c.loop-i.invariant.same j (omega arith))
 
 pub returns-clause-narrow : goal.returns-clause-narrow
-returns-clause-narrow g c i =
+returns-clause-narrow c i =
     elim (dec_lt i c.loop-i.i) [
       | yes l ↦ c.loop-i.invariant.narrow i l
-      | no l ↦ rw (get_or-eq_default c.args.masks.now 0 {n = i} (omega arith)) (omega arith)
+      | no l ↦ rw (get_or-eq_default c.args.from.now 0 {n = i} (omega arith)) (omega arith)
     ]

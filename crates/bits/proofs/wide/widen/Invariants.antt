@@ -5,9 +5,9 @@ use lib.ListN.{get_or, length}
 use Rattle.bits.proofs.wide.widen.Given as goal
 
 abbrev pub invariant-loop-i : goal.invariant-loop-i
-invariant-loop-i g l =
+invariant-loop-i l =
     record {
-      long : length l.wide ≡ length l.masks;
-      same : (j : ℕ) → j < l.i → get_or l.wide j 0 ≡ get_or l.masks j 0;
-      narrow : (j : ℕ) → j < l.i → get_or l.masks j 0 < 2 ^ 32;
+      long : length l.to ≡ length l.from;
+      same : (j : ℕ) → j < l.i → get_or l.to j 0 ≡ get_or l.from j 0;
+      narrow : (j : ℕ) → j < l.i → get_or l.from j 0 < 2 ^ 32;
     }

@@ -8,7 +8,7 @@ pub returns : goal.returns
 returns c =
     record {
       refusal =
-          rw (c.widen-reads.ensures.same, c.widen-writes.ensures.same, c.widen-sources.ensures.same) at c.lent_refusal.ensures
+          rw (c.widened-reads.ensures.same, c.widened-writes.ensures.same, c.widened-sources.ensures.same) at c.lent_refusal.ensures
           ∙ parts_refusal (tables_of c.args.policy.now);
-      narrow = (c.widen-reads.ensures.narrow, c.widen-writes.ensures.narrow, c.widen-sources.ensures.narrow);
+      narrow = (c.widened-reads.ensures.narrow, c.widened-writes.ensures.narrow, c.widened-sources.ensures.narrow);
     }
