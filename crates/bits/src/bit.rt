@@ -2,7 +2,7 @@
 ghost use Rattle.std.specs.Prelude.{◌^◌, ◌<◌, ◌≡◌};
 ghost use Rattle.bits.specs.Masks.{has, with_bit};
 
-// The mask of one bit.
+// The mask of one bit. `bit_of` is it for any number, and would test here that the bit is one of 64 (d).
 pub fn worth(s: u32) -> u64
     requires { s < 64 }
     ensures { result ≡ 2 ^ s }

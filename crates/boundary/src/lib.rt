@@ -1,4 +1,4 @@
-// The kernel for programs in C: each function is a thin call, with the same equation and no `requires`.
+// The kernel for programs in C: each function is a call, with the same equation and no `requires`, and what C is given with a refusal.
 // include/separation_kernel.h declares them.
 #![tactic(auto)]
 

@@ -7,7 +7,7 @@ ghost use Rattle.machine.specs.Decode.{last_opcode, register_masks, operands_fit
 use machine::Instr;
 use octets::entry_or;
 
-// An opcode past the table is no instruction, whatever its operands.
+// An opcode past the table is no instruction, whatever its operands. The rules ask for a match over the opcode with a closing range (a).
 #[tactic(auto, unfolding(machine::specs::Decode::instruction_of))]
 fn instruction(op: u8, a: u8, b: u8, c: u8) -> Option<Instr>
     ensures { result ≡ instruction_of last_opcode op a b c }

@@ -50,7 +50,7 @@ pub fn read_letters(text: &[u8], place: &mut Cursor) -> Option<u32>
     None
 }
 
-// A number with a field after it.
+// A number with a field after it. This one and the next are two names, of a line each, for two definitions (d).
 pub fn read_inner(text: &[u8], place: &mut Cursor) -> Option<u32>
     ensures { record { said = result; next = place.new } ≡ inner_read text.now place.old }
 {

@@ -21,6 +21,7 @@ pub fn read_full<R: Read>(reader: &mut R, out: &mut [u8]) -> io::Result<usize>
     ensures left { OnErr result (length out.new ≡ length out.old) }
 {
     let mut done = 0;
+    // By hand: each read says where the next one begins (d).
     while done < out.len() {
         let n = reader.read(&mut out[done..])?;
         if n == 0 {

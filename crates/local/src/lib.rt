@@ -58,6 +58,7 @@ fn back(s: &mut [u8], pc: u16) -> u16
 }
 
 // One instruction at a count of ticks; a load or a store, which are lent more than these bytes, changes nothing here.
+// A match, since an instruction is a case with its operands by the rules (a).
 // It hands on the counter, and 65,536 more where lines, handler or state may have changed, so that the next tick asks.
 #[tactic(auto, unfolding(machine::specs::Local::acts_on))]
 pub fn act(s: &mut [u8], count: u32, pc: u16, i: Instr) -> u32

@@ -3,6 +3,7 @@ use crate::answers::{pend, read, run, start};
 use crate::block::Block;
 use crate::row::changed;
 use crate::step::{Check, Step};
+use kernel::START;
 use machine::Place;
 use policy::{MEMORY, Policy};
 use std::alloc::{AllocError, Global};
@@ -38,11 +39,7 @@ impl<'a> Trial<'a> {
             base,
             policy,
             memory: vec![in alloc; 0; MEMORY]?,
-            place: Place {
-                slot: 0,
-                used: 0,
-                count: 0,
-            },
+            place: START,
             number: 0,
         })
     }

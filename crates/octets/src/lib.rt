@@ -1,5 +1,6 @@
-// Bytes and halves that are lent: an entry or 0 past the end, and numbers of two and of four bytes, lowest byte first.
-// Every function is total but two, whose words must be there.
+// What is lent as a slice: an entry, or another value past the end, and numbers of two and of four bytes, lowest byte first.
+// Every function is total but two, whose words must be there. Words are named by register or by byte, as far as each can name
+// one without a sum that wraps (a).
 #![tactic(auto)]
 
 mod entry;

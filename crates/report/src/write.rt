@@ -60,6 +60,7 @@ pub fn put_refused(refusal: Refusal, out: &mut [u8]) -> usize
     writer.len()
 }
 
+// Into a lent buffer, which the longest report fits, since there is no heap (a).
 pub fn write_report(reading: Result<Policy, Refusal>, out: &mut [u8; 640]) -> usize
     requires { Reportable (answer_of reading) }
     ensures { Filled (report_of_reading (answer_of reading)) 640 out.old out.new result }

@@ -11,7 +11,7 @@ ghost use Rattle.std.specs.Prelude.{◌≤◌, length};
 
 use crate::scenario::Scenario;
 use crate::step::Step;
-use machine::Place;
+use kernel::START;
 use script::Lines;
 use std::{fs, io};
 
@@ -36,11 +36,7 @@ fn play<R: Print + AllocGlobal>(rt: &R, header: &str, lines: &mut Lines) -> io::
         policy,
         memory: vec![in alloc; 0; size]?,
         at: 0,
-        place: Place {
-            slot: 0,
-            used: 0,
-            count: 0,
-        },
+        place: START,
     };
     while let Some(line) = lines.next() {
         let words: Vec<&str> = line.split(' ').collect(alloc)?;

@@ -1,4 +1,4 @@
-// The round before that one, backwards too: behind each of its slots a partition is silent until the slot that it has next.
+// The round before the one of own.rt, backwards too: behind each of its slots a partition is silent until the slot that it has next.
 ghost use Rattle.std.specs.Prelude.{◌≡◌, true};
 ghost use Rattle.policy.specs.Below.{list_below};
 ghost use Rattle.policy.specs.Limits.{single};

@@ -25,6 +25,7 @@ pub(crate) fn round_of(policy: &Policy) -> Round
     ensures ahead { result.ahead ≡ list_below single.partitions (first_begin (view_of (tables_of policy.now))) }
     ensures ticks { result.ticks ≡ round_ticks (view_of (tables_of policy.now)) }
 {
+    // An entry for each partition that a record can have, since there is no heap (a).
     let mut own = [0u32; 8];
     let mut ahead = [0u32; 8];
     let mut far: u32 = 0;

@@ -1,4 +1,4 @@
-// What the readers find, each with the place where it leaves off.
+// What the readers find, each with where it ends.
 use crate::line::{Cursor, Line};
 
 // What digits write, modulo 4,294,967,296, where they end, and the byte there, 0 where the text ends: it ends no field, so one

@@ -23,6 +23,7 @@ impl Parts<'_> {
         ensures missing { result.missing ≡ found_after (view_of_parts self.now) targets }
         ensures stray { result.stray ≡ stray_flow (view_of_parts self.now) }
     {
+        // Room for the most partitions, since there is no heap (a).
         let mut reached = [0; 12];
         let mut written = [0; 12];
         let all = self.reach_all(&mut reached, &mut written);

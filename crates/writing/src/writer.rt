@@ -45,7 +45,7 @@ impl<'a> Writer<'a> {
         self.at = end;
     }
 
-    // The first digits are those of the tenth part.
+    // The first digits are those of the tenth part. By hand: std's own writes into a buffer of its own, and its law would be one more (d).
     fn put_number(&mut self, n: u32)
         requires { (n < 100000) × (length (digits n) ≤ room self.old) }
         ensures { Adds self.old (digits n) self.new }
