@@ -1,13 +1,13 @@
 // A stretch of a Run: ticks of one slot, and so of one partition. Those that step go in a loop of their own, which the
 // compiler keeps small: it asks for lines and state only after an instruction that may have changed them, and leaves where
 // the next tick is another than a step.
-ghost use Rattle.std.specs.Prelude.{◌≡◌, ℕ, ◌+◌, ◌-◌, ◌<◌, ◌≤◌, true, length, get_or};
+ghost use Rattle.std.specs.Prelude.{◌≡◌, ℕ, List, ◌+◌, ◌-◌, ◌<◌, ◌≤◌, true, length, get_or};
 ghost use Rattle.policy.specs.Limits.{most_ticks};
 ghost use Rattle.machine.specs.Save.{counter};
 ghost use Rattle.machine.specs.Local.{is_able};
 ghost use Rattle.machine.specs.Place.{counts, count_after};
 ghost use Rattle.machine.specs.Tick as machine;
-ghost use Rattle.savearea.specs.Next.{is_plain};
+ghost use Rattle.savearea.specs.Next.{is_plain, Hands};
 ghost use Rattle.parts.specs.Parts.{saved_at};
 ghost use Rattle.tick.specs.Seat.{Seated};
 ghost use Rattle.tick.specs.At.{seat_at};
@@ -16,16 +16,16 @@ ghost use Rattle.kernel.specs.Stretch.{ticked_for, ticked_of};
 use machine::Fault;
 use parts::{fault, get_counter, interrupt, is_able, is_ready, takes_interrupt};
 use policy::Policy;
-use savearea::ASKING;
+use savearea::Next;
 use tick::Seat;
 
-// Whether the next tick steps; the number that the last step handed on may say so.
-fn goes_on(seat: &Seat<'_>, memory: &[u8], next: u32) -> bool
+// Whether the next tick steps; what the last step handed on may say so.
+fn goes_on(seat: &Seat<'_>, memory: &[u8], next: Next) -> bool
     requires whole { length memory.now ≡ seat.now.whole }
-    requires plain_below { next < 65536 → is_plain (saved_at memory.now seat.now.from) ≡ true }
-    ensures { result ≡ is_plain (saved_at memory.now seat.now.from) }
+    ensures { (before : List ℕ) → is_plain before ≡ true → Hands next before (saved_at memory.now seat.now.from)
+        → result ≡ is_plain (saved_at memory.now seat.now.from) }
 {
-    if next < ASKING {
+    if let Next::Steps(_) = next {
         return true;
     }
     if takes_interrupt(memory, seat.from) {
@@ -56,7 +56,7 @@ fn steps(seat: &Seat<'_>, memory: &mut [u8], end: u32, first: u16, n: u32) -> u3
         // is `left`; without it the compiler carries the count all the same.
         let at = end.wrapping_sub(left % 1024);
         let next = seat.step(memory, at, pc);
-        pc = (next % ASKING) as u16;
+        pc = next.counter();
         left -= 1;
         if !goes_on(seat, memory, next) {
             return left;

@@ -12,7 +12,7 @@ ghost use Rattle.savearea.specs.Next.{Hands};
 use machine::{Fault, Instr};
 use octets::{get_half, get_word_in, put, put_half};
 use savearea::layout::{COUNTER, ENABLED, HANDLER, IN_HANDLER, RETURN, STATE, State};
-use savearea::{advance, asking, fault, in_handler, put_result};
+use savearea::{Next, advance, fault, in_handler, put_result};
 
 #[tactic(auto, unfolding(machine::specs::Local::jumps), using(savearea::proofs::Laws::Counters::counter_put))]
 fn jump(s: &mut [u8], a: u32, n: u32, pc: u16) -> u16
@@ -58,51 +58,51 @@ fn back(s: &mut [u8], pc: u16) -> u16
 }
 
 // One instruction at a count of ticks; a load or a store, which are lent more than these bytes, changes nothing here.
-// A match, since an instruction is a case with its operands by the rules (a).
-// It hands on the counter, and 65,536 more where lines, handler or state may have changed, so that the next tick asks.
+// The next tick asks where lines, handler or state may have changed. A match, since an instruction is a case with its operands
+// by the rules (a).
 #[tactic(auto, unfolding(machine::specs::Local::acts_on))]
-pub fn act(s: &mut [u8], count: u32, pc: u16, i: Instr) -> u32
+pub fn act(s: &mut [u8], count: u32, pc: u16, i: Instr) -> Next
     requires { (pc ≡ counter s.old) × (save_size ≤ length s.old) × Named i }
     ensures { (s.new ≡ acts_on s.old count i) × Hands result s.old s.new }
 {
     match i {
         Instr::Halt => {
             put(s, STATE, State::Halted as u8);
-            asking(pc)
+            Next::Asks(pc)
         }
-        Instr::Set(a, n) => put_result(s, a, n, pc) as u32,
+        Instr::Set(a, n) => Next::Steps(put_result(s, a, n, pc)),
         Instr::Add(a, b, c) => {
             let x = get_word_in(s, b).wrapping_add(get_word_in(s, c));
-            put_result(s, a, x, pc) as u32
+            Next::Steps(put_result(s, a, x, pc))
         }
         Instr::Sub(a, b, c) => {
             let x = get_word_in(s, b).wrapping_sub(get_word_in(s, c));
-            put_result(s, a, x, pc) as u32
+            Next::Steps(put_result(s, a, x, pc))
         }
         Instr::And(a, b, c) => {
             let x = get_word_in(s, b) & get_word_in(s, c);
-            put_result(s, a, x, pc) as u32
+            Next::Steps(put_result(s, a, x, pc))
         }
         Instr::Xor(a, b, c) => {
             let x = get_word_in(s, b) ^ get_word_in(s, c);
-            put_result(s, a, x, pc) as u32
+            Next::Steps(put_result(s, a, x, pc))
         }
         Instr::Shift(a, b, c) => {
             let x = get_word_in(s, b) >> (get_word_in(s, c) % 32);
-            put_result(s, a, x, pc) as u32
+            Next::Steps(put_result(s, a, x, pc))
         }
-        Instr::Load(_, _, _) => asking(pc),
-        Instr::Store(_, _, _) => asking(pc),
-        Instr::Jump(a, n) => jump(s, a, n, pc) as u32,
-        Instr::Wait => asking(wait(s, pc)),
+        Instr::Load(_, _, _) => Next::Asks(pc),
+        Instr::Store(_, _, _) => Next::Asks(pc),
+        Instr::Jump(a, n) => Next::Steps(jump(s, a, n, pc)),
+        Instr::Wait => Next::Asks(wait(s, pc)),
         Instr::Listen(a, n) => {
             put(s, ENABLED, a);
             put_half(s, HANDLER, n);
-            asking(advance(s, pc))
+            Next::Asks(advance(s, pc))
         }
-        Instr::Back => asking(back(s, pc)),
-        Instr::LoadWord(_, _, _) => asking(pc),
-        Instr::StoreWord(_, _, _) => asking(pc),
-        Instr::Count(a) => put_result(s, a, count, pc) as u32,
+        Instr::Back => Next::Asks(back(s, pc)),
+        Instr::LoadWord(_, _, _) => Next::Asks(pc),
+        Instr::StoreWord(_, _, _) => Next::Asks(pc),
+        Instr::Count(a) => Next::Steps(put_result(s, a, count, pc)),
     }
 }

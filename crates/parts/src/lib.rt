@@ -1,10 +1,11 @@
 // Memory by numbers: what is done to the save bytes from `from` on, or to a segment from `start` on, is done through
 // that part alone, which is lent.
+// No struct holds `memory` and `from`: it would need memory's length beside them, and a store changes memory next to the save bytes too (d).
 #![tactic(auto)]
 
 mod width;
 
-ghost use Rattle.std.specs.Prelude.{◌≡◌, true, ◌+◌, ◌%◌, ◌≤◌, ◌<◌, length};
+ghost use Rattle.std.specs.Prelude.{◌≡◌, ℕ, List, true, ◌+◌, ◌≤◌, ◌<◌, length};
 ghost use Rattle.std.proofs.lemmas.List.Edits.{sets};
 ghost use Rattle.policy.specs.Limits.{save_size};
 ghost use Rattle.machine.specs.Bytes.{part, digits};
@@ -12,13 +13,13 @@ ghost use Rattle.machine.specs.Save.{register, counter, due};
 ghost use Rattle.machine.specs.Faults.{faults};
 ghost use Rattle.machine.specs.Decode.{last_opcode, fetched};
 ghost use Rattle.machine.specs.Local.{takes_interrupt, interrupted, is_ready, is_able};
-ghost use Rattle.savearea.specs.Next.{Hands};
+ghost use Rattle.savearea.specs.Next.{is_plain, Hands};
 ghost use Rattle.parts.specs.Parts.{saved_at, with_saved, is_beside, loaded_from, stored_to};
 
 use machine::{Fault, Instr};
 use octets::{entry_or, get_half, get_word_in};
 use policy::SAVE_SIZE;
-use savearea::asking;
+use savearea::Next;
 use savearea::layout::{COUNTER, STATE, State};
 pub use width::{Byte, Width, Word};
 
@@ -114,7 +115,7 @@ pub fn load_from<W: Width>(
     a: u32,
     b: u32,
     pc: u16,
-) -> u32
+) -> Next
     requires parts_inside { (from + save_size ≤ length memory.old) × (start + size ≤ length memory.old) }
     requires counter_and_registers { (pc ≡ counter (saved_at memory.old from)) × (a < 8) × (b < 8) }
     ensures loaded { memory.new
@@ -126,26 +127,27 @@ pub fn load_from<W: Width>(
     let at = get_register(memory, from, b);
     if size < (at as usize) + width {
         fault(memory, from, Fault::OffsetOver);
-        return asking(pc);
+        return Next::Asks(pc);
     }
     let end = start + size;
     let x = W::read(&memory[start..end], at);
     let to = from + SAVE_SIZE;
-    u32::from(savearea::put_result(&mut memory[from..to], a, x, pc))
+    Next::Steps(savearea::put_result(&mut memory[from..to], a, x, pc))
 }
 
 // What a store of so many bytes from a place on hands to the next tick: the counter that it put, where none of them is a
 // save byte, for lines and state are then as they were; else the counter that is read back, and the next tick asks.
-fn after_store(memory: &[u8], from: usize, at: usize, width: usize, next: u16) -> u32
+fn after_store(memory: &[u8], from: usize, at: usize, width: usize, next: u16) -> Next
     requires parts_inside { (from + save_size ≤ length memory.now) × (at + width ≤ length memory.now) }
     requires put_beside { is_beside from at width ≡ true → next ≡ counter (saved_at memory.now from) }
-    ensures { (result % 65536 ≡ counter (saved_at memory.now from)) × (result < 65536 → is_beside from at width ≡ true) }
+    ensures { (before : List ℕ) → (is_beside from at width ≡ true → is_plain (saved_at memory.now from) ≡ is_plain before)
+        → Hands result before (saved_at memory.now from) }
 {
     let to = from + SAVE_SIZE;
     if (at + width <= from) | (to <= at) {
-        return u32::from(next);
+        return Next::Steps(next);
     }
-    asking(get_counter(memory, from))
+    Next::Asks(get_counter(memory, from))
 }
 
 // Those bytes take register a. The save bytes are put first, as the definition has it; nothing is read between.
@@ -157,7 +159,7 @@ pub fn store_to<W: Width>(
     a: u32,
     b: u32,
     pc: u16,
-) -> u32
+) -> Next
     requires parts_inside { (from + save_size ≤ length memory.old) × (start + size ≤ length memory.old) }
     requires counter_and_registers { (pc ≡ counter (saved_at memory.old from)) × (a < 8) × (b < 8) }
     ensures stored { memory.new ≡ stored_to W.BYTES memory.old from start size a b }
@@ -173,6 +175,6 @@ pub fn store_to<W: Width>(
         after_store(memory, from, start + at as usize, width, next)
     } else {
         fault(memory, from, Fault::OffsetOver);
-        asking(pc)
+        Next::Asks(pc)
     }
 }

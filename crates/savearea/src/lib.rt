@@ -8,4 +8,4 @@ mod line;
 mod step;
 
 pub use line::{interrupt, takes_interrupt};
-pub use step::{ASKING, advance, asking, fault, in_handler, put_result};
+pub use step::{Next, advance, fault, in_handler, put_result};

@@ -4,6 +4,7 @@ ghost use Rattle.policy.specs.Limits.{save_size};
 ghost use Rattle.machine.specs.Save.{counter, in_handler};
 ghost use Rattle.machine.specs.Faults.{faults};
 ghost use Rattle.machine.specs.Local.{advanced, resulted};
+ghost use Rattle.savearea.specs.Next.{counter_in};
 
 use crate::layout::{COUNTER, FAULT, IN_HANDLER, STATE, State};
 use machine::Fault;
@@ -16,6 +17,7 @@ pub fn in_handler(s: &[u8]) -> bool
 }
 
 // The counter is handed in, and handed back, so that a tick need not read it: what it is worth stands in the save bytes too.
+// A slice with `save_size ≤ length s` as a clause, and no `&mut [u8; 44]`, which asks more of callers: it promises on longer slices too (a).
 pub fn advance(s: &mut [u8], pc: u16) -> u16
     requires { (pc ≡ counter s.old) × (save_size ≤ length s.old) }
     ensures { (s.new ≡ advanced s.old) × (result ≡ counter s.new) }
@@ -33,14 +35,22 @@ pub fn put_result(s: &mut [u8], a: u32, x: u32, pc: u16) -> u16
     advance(s, pc)
 }
 
-// Counters are below it.
-pub const ASKING: u32 = 65536;
+// What an instruction hands to the next tick: the counter, and whether that steps without asking for lines and state.
+#[derive(Clone, Copy, PartialEq, Eq, Debug)]
+pub enum Next {
+    Steps(u16),
+    Asks(u16),
+}
 
-// What an instruction hands to the next tick where that must ask for lines and state: the counter, and 65,536 more.
-pub fn asking(pc: u16) -> u32
-    ensures { result ≡ pc + 65536 }
-{
-    pc as u32 + ASKING
+impl Next {
+    pub fn counter(self) -> u16
+        ensures { result ≡ counter_in self }
+    {
+        match self {
+            Next::Steps(pc) => pc,
+            Next::Asks(pc) => pc,
+        }
+    }
 }
 
 pub fn fault(s: &mut [u8], f: Fault)

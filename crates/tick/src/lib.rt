@@ -20,12 +20,12 @@ use local::act;
 use machine::{Fault, Instr};
 use parts::{Byte, Word, fault, fetch};
 use policy::SAVE_SIZE;
-use savearea::asking;
+use savearea::Next;
 pub use seat::Seat;
 
 impl Seat<'_> {
     // A load and a store are lent a segment; every other instruction the save bytes alone.
-    fn obey(&self, memory: &mut [u8], count: u32, pc: u16, d: Option<Instr>) -> u32
+    fn obey(&self, memory: &mut [u8], count: u32, pc: u16, d: Option<Instr>) -> Next
         requires whole { length memory.old ≡ self.now.whole }
         requires counter_and_registers { (pc ≡ counter (saved_at memory.old self.now.from)) × NamedIn d }
         ensures obeyed { memory.new ≡ obeyed (seat_at self.now) self.now.from memory.old count d }
@@ -33,7 +33,7 @@ impl Seat<'_> {
     {
         let Some(i) = d else {
             fault(memory, self.from, Fault::BadInstruction);
-            return asking(pc);
+            return Next::Asks(pc);
         };
         match i {
             Instr::Load(a, b, c) => self.load::<Byte>(memory, a, b, c, pc),
@@ -49,7 +49,7 @@ impl Seat<'_> {
 
     // A tick at this count and with this counter: one that takes no interrupt, of a partition that is ready, with an
     // instruction at its counter.
-    pub fn step(&self, memory: &mut [u8], count: u32, pc: u16) -> u32
+    pub fn step(&self, memory: &mut [u8], count: u32, pc: u16) -> Next
         requires whole { length memory.old ≡ self.now.whole }
         requires counter_in_code { (pc ≡ counter (saved_at memory.old self.now.from)) × (pc + 4 ≤ self.now.room) }
         requires plain { is_plain (saved_at memory.old self.now.from) ≡ true }

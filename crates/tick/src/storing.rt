@@ -10,10 +10,10 @@ use crate::reach::{entry, may};
 use crate::seat::Seat;
 use machine::Fault;
 use parts::{Width, fault, store_to};
-use savearea::asking;
+use savearea::Next;
 
 impl Seat<'_> {
-    pub(crate) fn store<W: Width>(&self, memory: &mut [u8], a: u32, b: u32, c: u32, pc: u16) -> u32
+    pub(crate) fn store<W: Width>(&self, memory: &mut [u8], a: u32, b: u32, c: u32, pc: u16) -> Next
         requires whole { length memory.old ≡ self.now.whole }
         requires counter_and_registers { (pc ≡ counter (saved_at memory.old self.now.from)) × (a < 8) × (b < 8) }
         ensures stored { memory.new ≡ stored (seat_at self.now) W.BYTES self.now.from memory.old a b c }
@@ -31,7 +31,7 @@ impl Seat<'_> {
             )
         } else {
             fault(memory, self.from, Fault::NoRight);
-            asking(pc)
+            Next::Asks(pc)
         }
     }
 }

@@ -4,12 +4,13 @@ use Rattle.std.proofs.Common.{◌≡◌, ℕ, ◌<◌, List, sym, ◌∙◌, ari
 use Rattle.machine.specs.Local.{acts_on, resulted}
 use Rattle.machine.specs.Save.{counter}
 use Rattle.savearea.specs.Next.{Hands}
+use Rattle.savearea.specs.declared.step.Next.TheVariants.{Steps}
 use Rattle.savearea.proofs.Laws.Counters.{counter_behind, counter-half_behind}
-use Rattle.savearea.proofs.Laws.Next.{plain_resulted, plain_jumps, hands_on, hands_asking}
+use Rattle.savearea.proofs.Laws.Next.{plain_resulted, plain_jumps}
 use Rattle.local.proofs.act.Goals as goal
 
-result-hands : (s t : List ℕ) (a n next : ℕ) → a < 8 → next < 65536 → (t ≡ resulted s a n) × (next ≡ counter t) → Hands next s t
-result-hands s t a n next few fits e = hands_on next s t fits e.1 (rw e.0 (plain_resulted s a n few))
+result-hands : (s t : List ℕ) (a n next : ℕ) → a < 8 → (t ≡ resulted s a n) × (next ≡ counter t) → Hands (Steps next) s t
+result-hands s t a n next few e = (e.1, rw e.0 (plain_resulted s a n few))
 
 pub advance-requires : goal.advance-requires
 advance-requires c =
@@ -29,7 +30,7 @@ returns-in-Halt c =
     let start = arm in
     let e = state.put.ensures in
     let same = start.requires.0 ∙ sym (counter_behind _ 34 _ (omega arith)) in
-    (rw (arm.in-Halt.is, e), hands_asking _ _ _ _ (search rules) (rw e same) c.asking.ensures)
+    (rw (arm.in-Halt.is, e), rw e same)
 
 pub returns-in-Set : goal.returns-in-Set
 unfolding acts_on
@@ -37,7 +38,7 @@ returns-in-Set c =
     let e = c.put_result.ensures in
     let arm = c in
     let start = arm in
-    (rw (arm.in-Set.is, e.0), result-hands _ _ _ _ _ (rw arm.in-Set.is at start.requires.2) (search rules) e)
+    (rw (arm.in-Set.is, e.0), result-hands _ _ _ _ _ (rw arm.in-Set.is at start.requires.2) e)
 
 pub returns-in-Add : goal.returns-in-Add
 unfolding acts_on
@@ -49,7 +50,7 @@ returns-in-Add c =
     let start = arm in
     let e = result.put_result-in-Add.ensures in (
       rw (arm.in-Add.is, e.0, right.get_word_in-in-Add.ensures, left.get_word_in.ensures),
-      result-hands _ _ _ _ _ (rw arm.in-Add.is at start.requires.2).0 (search rules) e,
+      result-hands _ _ _ _ _ (rw arm.in-Add.is at start.requires.2).0 e,
     )
 
 pub returns-in-Sub : goal.returns-in-Sub
@@ -62,7 +63,7 @@ returns-in-Sub c =
     let start = arm in
     let e = result.put_result-in-Sub.ensures in (
       rw (arm.in-Sub.is, e.0, right.get_word_in-in-Sub-2.ensures, left.get_word_in-in-Sub.ensures),
-      result-hands _ _ _ _ _ (rw arm.in-Sub.is at start.requires.2).0 (search rules) e,
+      result-hands _ _ _ _ _ (rw arm.in-Sub.is at start.requires.2).0 e,
     )
 
 pub returns-in-And : goal.returns-in-And
@@ -75,7 +76,7 @@ returns-in-And c =
     let start = arm in
     let e = result.put_result-in-And.ensures in (
       rw (arm.in-And.is, e.0, right.get_word_in-in-And-2.ensures, left.get_word_in-in-And.ensures),
-      result-hands _ _ _ _ _ (rw arm.in-And.is at start.requires.2).0 (search rules) e,
+      result-hands _ _ _ _ _ (rw arm.in-And.is at start.requires.2).0 e,
     )
 
 pub returns-in-Xor : goal.returns-in-Xor
@@ -88,7 +89,7 @@ returns-in-Xor c =
     let start = arm in
     let e = result.put_result-in-Xor.ensures in (
       rw (arm.in-Xor.is, e.0, right.get_word_in-in-Xor-2.ensures, left.get_word_in-in-Xor.ensures),
-      result-hands _ _ _ _ _ (rw arm.in-Xor.is at start.requires.2).0 (search rules) e,
+      result-hands _ _ _ _ _ (rw arm.in-Xor.is at start.requires.2).0 e,
     )
 
 pub returns-in-Shift : goal.returns-in-Shift
@@ -101,14 +102,14 @@ returns-in-Shift c =
     let start = arm in
     let e = result.put_result-in-Shift.ensures in (
       rw (arm.in-Shift.is, e.0, right.get_word_in-in-Shift-2.ensures, left.get_word_in-in-Shift.ensures),
-      result-hands _ _ _ _ _ (rw arm.in-Shift.is at start.requires.2).0 (search rules) e,
+      result-hands _ _ _ _ _ (rw arm.in-Shift.is at start.requires.2).0 e,
     )
 
 pub returns-in-Jump : goal.returns-in-Jump
 unfolding acts_on
 returns-in-Jump c =
     let e = c.jump.ensures in
-    (rw (c.in-Jump.is, e.0), hands_on _ _ _ (search rules) e.1 (rw e.0 (plain_jumps _ _ _)))
+    (rw (c.in-Jump.is, e.0), (e.1, rw e.0 (plain_jumps _ _ _)))
 
 pub returns-in-Count : goal.returns-in-Count
 unfolding acts_on
@@ -116,4 +117,4 @@ returns-in-Count c =
     let e = c.put_result-in-Count.ensures in
     let arm = c in
     let start = arm in
-    (rw (arm.in-Count.is, e.0), result-hands _ _ _ _ _ (rw arm.in-Count.is at start.requires.2) (search rules) e)
+    (rw (arm.in-Count.is, e.0), result-hands _ _ _ _ _ (rw arm.in-Count.is at start.requires.2) e)

@@ -1,5 +1,5 @@
 -- Save bytes that were put back into memory stand there, and so their counter and what they hand to the next tick; a fault leaves the counter.
-use Prim.Native.Nat.{ℕ, ◌+◌, ◌≤◌, ◌<◌}
+use Prim.Native.Nat.{ℕ, ◌+◌, ◌≤◌}
 use native.Mathlib.Omega.{arith}
 use mathlib.Core.Path.{◌≡◌, sym, ◌∙◌, ap}
 use mathlib.Core.Bool.{true}
@@ -17,9 +17,11 @@ use Rattle.octets.specs.Numbers.{with_half, with_word}
 use Rattle.machine.proofs.Laws.Parts.{part-sets_other}
 use Rattle.machine.proofs.Laws.Written.{part_put}
 use Rattle.policy.proofs.Laws.Bools.{or_cases}
+use Rattle.savearea.specs.declared.step.Next.{Next}
+use Rattle.savearea.specs.declared.step.Next.TheVariants.{Asks}
 use Rattle.savearea.specs.Next.{Hands, is_plain}
 use Rattle.savearea.proofs.Laws.Counters.{counter-faults}
-use Rattle.savearea.proofs.Laws.Next.{hands_asking, plain_advanced, plain_interrupted}
+use Rattle.savearea.proofs.Laws.Next.{plain_advanced, plain_interrupted}
 use Rattle.parts.specs.Parts.{saved_at, with_saved, is_beside}
 
 module _ (m : List ℕ) (from : ℕ) (fits : from + 44 ≤ length m) where
@@ -33,16 +35,16 @@ module _ (m : List ℕ) (from : ℕ) (fits : from + 44 ≤ length m) where
     counter_back : counter (saved_at (with_saved m from bytes) from) ≡ counter bytes
     counter_back = ap counter saved_back
 
-    pub hands_back : (next : ℕ) → Hands next (saved_at m from) bytes → Hands next (saved_at m from) (saved_at (with_saved m from bytes) from)
+    pub hands_back : (next : Next) → Hands next (saved_at m from) bytes → Hands next (saved_at m from) (saved_at (with_saved m from bytes) from)
     hands_back next h = rw saved_back h
 
   counter_fault : (f : Fault) → counter (saved_at (with_saved m from (faults (saved_at m from) f)) from) ≡ counter (saved_at m from)
   unfolding faults
   counter_fault f = counter_back (faults (saved_at m from) f) (simp length-set) ∙ counter-faults (saved_at m from) f
 
-  pub hands_fault : (f : Fault) (next pc : ℕ) → pc < 65536 → pc ≡ counter (saved_at m from) → next ≡ pc + 65536
-      → Hands next (saved_at m from) (saved_at (with_saved m from (faults (saved_at m from) f)) from)
-  hands_fault f next pc few e asks = hands_asking next pc _ _ few (e ∙ sym (counter_fault f)) asks
+  pub hands_fault : (f : Fault) (pc : ℕ) → pc ≡ counter (saved_at m from)
+      → Hands (Asks pc) (saved_at m from) (saved_at (with_saved m from (faults (saved_at m from) f)) from)
+  hands_fault f pc e = e ∙ sym (counter_fault f)
 
   -- After an interrupt the next tick is plain.
   pub plain_taken : is_plain (saved_at (with_saved m from (interrupted (saved_at m from))) from) ≡ true

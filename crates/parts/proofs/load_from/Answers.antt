@@ -3,7 +3,8 @@ use Rattle.std.proofs.Common.{rules}
 use native.Mathlib.Nat.{add-sub_cancel_left}
 use borrow.Author.Tests.{le-leb, lt-leb}
 use Rattle.machine.specs.Tick.{in_segment}
-use Rattle.savearea.proofs.Laws.Next.{plain_resulted, hands_on}
+use Rattle.savearea.specs.declared.step.Next.TheVariants.{Steps}
+use Rattle.savearea.proofs.Laws.Next.{plain_resulted}
 use Rattle.parts.specs.Parts.{loaded_from}
 use Rattle.parts.proofs.Laws.Counters.{hands_back, hands_fault}
 use Rattle.parts.proofs.load_from.Goals as goal
@@ -17,7 +18,7 @@ returns-then-size-at-clause-loaded g c =
 pub returns-then-size-at-clause-hands : goal.returns-then-size-at-clause-hands
 returns-then-size-at-clause-hands g c =
     let p = c.requires in
-    rw c.fault.ensures (hands_fault _ _ p.parts_inside.0 _ _ _ (search rules) p.counter_and_registers.0 c.asking.ensures)
+    rw c.fault.ensures (hands_fault _ _ p.parts_inside.0 _ _ p.counter_and_registers.0)
 
 pub put_result-requires : goal.put_result-requires
 put_result-requires g c =
@@ -41,6 +42,6 @@ pub returns-clause-hands : goal.returns-clause-hands
 returns-clause-hands g c =
     let e = c.put_result.ensures in
     let long = rw add-sub_cancel_left at c.put_result.auto.s in
-    rw (c.from.ensures, add-sub_cancel_left)
-    (hands_back _ _ c.requires.parts_inside.0 _ long _
-    (hands_on _ _ _ (search rules) e.1 (rw (e.0, add-sub_cancel_left) (plain_resulted _ _ _ c.requires.counter_and_registers.1))))
+    rw add-sub_cancel_left
+    (hands_back _ _ c.requires.parts_inside.0 _ long (Steps _)
+    (e.1, rw (e.0, add-sub_cancel_left) (plain_resulted _ _ _ c.requires.counter_and_registers.1)))

@@ -36,11 +36,8 @@ returns-then-at-width-clause-stored g c =
 
 pub returns-then-at-width-clause-hands : goal.returns-then-at-width-clause-hands
 returns-then-at-width-clause-hands g c =
-    let e = c.after_store.ensures in (
-      e.0,
-      λ small. rw (c.store_at.ensures, c.advance-next.ensures.0, add-sub_cancel_left)
-          (plain_beside _ _ c.requires.parts_inside.0 _ (digits g.W.Width.BYTES _) (rw length_digits (rw (c.from-width.ensures, c.BYTES.ensures) at e.1 small))),
-    )
+    c.after_store.ensures _ (λ beside. rw (c.store_at.ensures, c.advance-next.ensures.0, add-sub_cancel_left)
+    (plain_beside _ _ c.requires.parts_inside.0 _ (digits g.W.Width.BYTES _) (rw length_digits (rw (c.from-width.ensures, c.BYTES.ensures) at beside))))
 
 pub returns-else-at-width-clause-stored : goal.returns-else-at-width-clause-stored
 unfolding stored_to in_segment
@@ -51,4 +48,4 @@ returns-else-at-width-clause-stored g c =
 pub returns-else-at-width-clause-hands : goal.returns-else-at-width-clause-hands
 returns-else-at-width-clause-hands g c =
     let p = c.requires in
-    rw c.fault.ensures (hands_fault _ _ p.parts_inside.0 _ _ _ (search rules) p.counter_and_registers.0 c.asking.ensures)
+    rw c.fault.ensures (hands_fault _ _ p.parts_inside.0 _ _ p.counter_and_registers.0)

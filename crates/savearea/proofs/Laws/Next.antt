@@ -1,6 +1,5 @@
 -- A register or a counter that is put leaves lines, handler and state, and so whether the next tick is plain.
 use Prim.Native.Nat.{ℕ, ◌+◌, ◌*◌, ◌/◌, ◌%◌, ◌≤◌, ◌<◌}
-use native.Mathlib.Nat.{mod-eq_of_lt}
 use native.Mathlib.Omega.{arith}
 use mathlib.Core.Path.{◌≡◌, refl, sym, ◌∙◌}
 use mathlib.Core.Bool.{Bool, true, false, not, ◌&&◌, cond, true≢false}
@@ -9,9 +8,11 @@ use lib.Dec.{eqb}
 use lib.ListN.{get_or, set, length, length-set}
 use lib.Seq.{get_or-set_same, get_or-set_other}
 use Rattle.octets.specs.Numbers.{with_half, with_word}
+use Rattle.savearea.specs.declared.step.Next.{Next}
+use Rattle.savearea.specs.declared.step.Next.TheVariants.{Steps, Asks}
 use Rattle.machine.specs.Save.{counter, register, with_counter}
 use Rattle.machine.specs.Local.{advanced, resulted, jumps, takes_interrupt, is_ready, interrupted, entered}
-use Rattle.savearea.specs.Next.{is_plain, Hands}
+use Rattle.savearea.specs.Next.{is_plain, counter_in, Hands}
 
 -- The fields behind the counter are the same bytes.
 abbrev Beyond : List ℕ → List ℕ → Type 0
@@ -94,11 +95,7 @@ pub plain_interrupted : (s : List ℕ) → 44 ≤ length s → is_plain (interru
 unfolding interrupted
 plain_interrupted s long = plain_entered s _ _ _ _ long
 
--- The counter alone, where the next tick is as plain as this one; and with 65,536 more, wherever.
-pub hands_on : (next : ℕ) (s t : List ℕ) → next < 65536 → next ≡ counter t → is_plain t ≡ is_plain s → Hands next s t
-hands_on next s t fits e p = (mod-eq_of_lt fits ∙ e, λ _. p)
-
-pub hands_asking : (next pc : ℕ) (s t : List ℕ) → pc < 65536 → pc ≡ counter t → next ≡ pc + 65536 → Hands next s t
-hands_asking next pc s t fits e f =
-    let low : next % 65536 ≡ pc = rw f (omega arith) in
-    (low ∙ e, λ small. absurd (omega arith))
+-- In both cases the counter is handed on.
+pub hands_counter : (next : Next) (s t : List ℕ) → Hands next s t → counter_in next ≡ counter t
+hands_counter (Steps pc) s t h = h.0
+hands_counter (Asks pc) s t h = h

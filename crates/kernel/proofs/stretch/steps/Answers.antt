@@ -1,6 +1,7 @@
 -- Each turn is one tick more of the partition, at the next count and with the counter that the last one left. Each is plain, and the first has an
 -- instruction at its counter, so that one at least is done.
 use Rattle.std.proofs.Common.{ℕ, ◌+◌, ◌<◌, ◌≤◌, ◌⊎◌, sym, ◌∙◌, inl, inr, ⊎_elim, arith, rules}
+use Rattle.savearea.proofs.Laws.Next.{hands_counter}
 use Rattle.kernel.proofs.Laws.Ticks.{none_yet, one_more}
 use Rattle.kernel.proofs.stretch.steps.Goals as goal
 
@@ -38,8 +39,8 @@ loop-left-preserved c =
     record {
       whole = omega (arith, c.step-next.auto.memory, v.whole);
       done = one_more _ _ _ _ _ _ _ _ _ _ _ c.loop-left-test.true v.most c.requires.some_few.1 (search rules) (omega arith) v.done c.step-next.ensures.ticked;
-      counter_is = c.step-next.ensures.hands.0;
-      plain = sym c.goes_on.ensures ∙ c.if-not-goes_on.false;
+      counter_is = c.counter-pc.ensures ∙ hands_counter _ _ _ c.step-next.ensures.hands;
+      plain = sym (c.goes_on.ensures _ v.plain c.step-next.ensures.hands) ∙ c.if-not-goes_on.false;
       some_done = inl (omega (arith, c.loop-left-test.true, v.most));
       most = omega (arith, v.most);
       counter_fits = omega arith;

@@ -1,5 +1,4 @@
 -- The right decides first, and what is lent to a load is what `looks` shows of that segment; a fault asks.
-use Rattle.std.proofs.Common.{rules}
 use Rattle.machine.specs.Tick.{looks, loads}
 use Rattle.parts.specs.Parts.{loaded_from}
 use Rattle.parts.proofs.Laws.Counters.{hands_fault}
@@ -30,4 +29,4 @@ returns-else-may-clause-loaded g c = rw (c.fault.ensures, ← c.may.ensures, c.i
 pub returns-else-may-clause-hands : goal.returns-else-may-clause-hands
 returns-else-may-clause-hands g c =
     rw c.fault.ensures
-    (hands_fault c.args.memory.now c.args.self.now.from (rw c.requires.whole c.args.self.now.save_inside) _ _ _ (search rules) c.requires.counter_and_registers.0 c.asking.ensures)
+    (hands_fault c.args.memory.now c.args.self.now.from (rw c.requires.whole c.args.self.now.save_inside) _ _ c.requires.counter_and_registers.0)

@@ -1,6 +1,5 @@
 -- What decodes to none faults; a load and a store are the definition's own cases; every other instruction changes the save bytes alone, and
 -- these are lent.
-use Rattle.std.proofs.Common.{rules}
 use native.Mathlib.Nat.{add-sub_cancel_left}
 use Rattle.machine.specs.Tick.{executes, obeys}
 use Rattle.parts.proofs.Laws.Counters.{hands_back, hands_fault}
@@ -14,7 +13,7 @@ returns-in_default-clause-obeyed c = rw c.in_default.is c.fault.ensures
 pub returns-in_default-clause-hands : goal.returns-in_default-clause-hands
 returns-in_default-clause-hands c =
     rw c.fault.ensures
-    (hands_fault c.args.memory.now c.args.self.now.from (rw c.requires.whole c.args.self.now.save_inside) _ _ _ (search rules) c.requires.counter_and_registers.0 c.asking.ensures)
+    (hands_fault c.args.memory.now c.args.self.now.from (rw c.requires.whole c.args.self.now.save_inside) _ _ c.requires.counter_and_registers.0)
 
 pub returns-in-Load-clause-obeyed : goal.returns-in-Load-clause-obeyed
 unfolding obeys executes

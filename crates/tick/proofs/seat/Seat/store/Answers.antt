@@ -1,5 +1,4 @@
 -- The right decides first, and the store by numbers is the effect applied; a fault asks.
-use Rattle.std.proofs.Common.{rules}
 use Rattle.machine.specs.Tick.{stores_bytes}
 use Rattle.parts.proofs.Laws.Counters.{hands_fault}
 use Rattle.tick.specs.At.{seat_at}
@@ -35,4 +34,4 @@ returns-else-may-clause-stored g c = rw (c.fault.ensures, ← c.may.ensures, c.i
 pub returns-else-may-clause-hands : goal.returns-else-may-clause-hands
 returns-else-may-clause-hands g c =
     rw c.fault.ensures
-    (hands_fault c.args.memory.now c.args.self.now.from (rw c.requires.whole c.args.self.now.save_inside) _ _ _ (search rules) c.requires.counter_and_registers.0 c.asking.ensures)
+    (hands_fault c.args.memory.now c.args.self.now.from (rw c.requires.whole c.args.self.now.save_inside) _ _ c.requires.counter_and_registers.0)
