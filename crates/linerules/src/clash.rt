@@ -33,12 +33,11 @@ pub(crate) fn overlaps_earlier(policy: &Policy, segments: u8, base: u32, size: u
 }
 
 fn shares_earlier(policy: &Policy, partitions: u8, code: u32, save: u32) -> bool
-    requires { partitions ≤ single.partitions }
     ensures { result ≡ shares_earlier (first_partitions (view_of (tables_of policy.now)) partitions) code save }
 {
     for i in 0..partitions as usize {
-        let c = policy.code[i] as u32;
-        let s = policy.save[i] as u32;
+        let c = entry_or(&policy.code, i, 0) as u32;
+        let s = entry_or(&policy.save, i, 0) as u32;
         if (save == s) | (save == c) | (code == s) {
             return true;
         }
@@ -48,7 +47,6 @@ fn shares_earlier(policy: &Policy, partitions: u8, code: u32, save: u32) -> bool
 
 // With the first so many partitions.
 pub(crate) fn partition_clashes(policy: &Policy, partitions: u8, code: u32, save: u32) -> bool
-    requires { partitions ≤ single.partitions }
     ensures { result ≡ partition_clashes (first_partitions (view_of (tables_of policy.now)) partitions) code save }
 {
     let bytes = entry_or(&policy.size, save as usize, 0) as usize;

@@ -14,8 +14,6 @@ pub struct Draft {
     pub barred: u32,
     pub ended: u32,
     pub ghost few_segments: { policy.segments ≤ single.segments },
-    pub ghost few_partitions: { policy.partitions ≤ single.partitions },
-    pub ghost few_slots: { policy.slots ≤ single.slots },
     pub ghost saves_barred: { Barred policy.save policy.partitions barred },
     pub ghost segments_ended: { EndedBy policy.base policy.size policy.segments ended },
 }

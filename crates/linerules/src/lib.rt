@@ -12,3 +12,4 @@ mod range;
 
 pub use draft::Draft;
 pub use entry::{partition_passes, segment_passes};
+pub use order::key_of;

@@ -8,7 +8,7 @@ use policy::Key;
 use text::Line;
 
 // What the next line is compared with.
-pub(crate) fn key_of(line: Line) -> Key
+pub fn key_of(line: Line) -> Key
     ensures { result ≡ key_of line }
 {
     match line {

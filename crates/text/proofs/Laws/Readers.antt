@@ -167,6 +167,22 @@ module _ (text : List ℕ) (c : Cursor) where
           (λ s g. rest_end next s ∙ rw (f s))
           (λ s g. rest_open next g)))
 
+    -- It is read neither so nor so.
+    pub either_none :
+        {r r' : Found ℕ} → r ≡ field_read read tab text c → r' ≡ field_read read line_end text c
+        → r.said ≡ None → r'.said ≡ None → rest_read next text c ≡ nothing
+    either_none is is' =
+        rw (is, is')
+        (by_field read tab
+        (λ r. r.said ≡ None → (field_read read line_end text c).said ≡ None → rest_read next text c ≡ nothing)
+        (λ m s q e. absurd (no_value (sym e)))
+        (λ f e. by_field read line_end (λ r. r.said ≡ None → rest_read next text c ≡ nothing)
+        (λ m s q e. absurd (no_value (sym e)))
+        (λ f' e'. by_stop text from _
+        (λ s g. rest_tab next s (λ fs. Bad) (λ fs. rw (f s)) ∙ rest_bad text (past_field text c))
+        (λ s g. rest_end next s ∙ rw (f' s))
+        (λ s g. rest_open next g))))
+
   -- The record word: a line says what its kind says of the fields after it.
   word_known :
       {k : Option Kind} → word_of (field_at text from) ≡ k → stop_at text from ≡ tab

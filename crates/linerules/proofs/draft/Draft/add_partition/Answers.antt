@@ -9,8 +9,6 @@ invariant_of-self c =
     let d = c.args.self.now in
     record {
       few_segments = d.few_segments;
-      few_partitions = omega arith;
-      few_slots = d.few_slots;
       saves_barred =
           rw c.with_low_bit-self.ensures
           (saves_stored d.policy.save c.args.id c.args.save d.barred (search rules) c.requires.has_place (rw c.requires.next d.saves_barred));

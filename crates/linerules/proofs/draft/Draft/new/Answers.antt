@@ -11,8 +11,6 @@ invariant_of-result c =
     let e = c.zeros.ensures in
     record {
       few_segments = omega (arith, ap (λ (t : Tables). t.segments.count) e);
-      few_partitions = omega (arith, ap (λ (t : Tables). t.partitions.count) e);
-      few_slots = omega (arith, ap (λ (t : Tables). t.slots.count) e);
       saves_barred = saves_none _ e;
       segments_ended = ended_none _ e;
     }
