@@ -1,3 +1,2 @@
--- The results of the operations, as C has them, and the version of the header that declares them.
-pub mod Results
+-- The version of the header that declares the calls.
 pub mod Version

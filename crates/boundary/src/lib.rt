@@ -1,5 +1,6 @@
-// The kernel for programs in C: each function is a call, with the same equation and no `requires`, and what C is given with a refusal.
-// include/separation_kernel.h declares them.
+// The kernel for programs in C: each function is a thin call, with the same equation and no `requires`.
+// include/separation_kernel.h declares them. sk_read, sk_reach and sk_sheet make their answer themselves, as `answers` makes it: by a call of `answers` it would
+// be copied once more, which takes up to 432 bytes of stack (b).
 #![tactic(auto)]
 
 ghost use Rattle.std.specs.Prelude.{◌≡◌, cond};
@@ -12,54 +13,14 @@ ghost use Rattle.calls.specs.Outcomes.{outcome_number};
 ghost use Rattle.calls.specs.Start.{start_place, start_answer, after_start};
 ghost use Rattle.calls.specs.Pend.{pend_outcome, after_pend};
 ghost use Rattle.calls.specs.Run.{state_of, run_answer, after_run};
-ghost use Rattle.boundary.specs.Results.{Tells, run_result, reach_result, question_result, sheet_result};
+ghost use Rattle.answers.specs.Results.{Tells, run_result, reach_result, question_result, sheet_result};
 ghost use Rattle.boundary.specs.Version.{version};
 
+pub use answers::{QuestionResult, ReachResult, ReadResult, RunResult, SheetResult};
 use calls::Refused;
+use kernel::START;
 use machine::Place;
-use policy::Policy;
-
-// struct sk_read_result
-#[repr(C)]
-#[derive(Clone, Copy)]
-pub struct ReadResult {
-    pub number: u32,
-    pub line: u32,
-    pub policy: Policy,
-}
-
-// struct sk_run_result
-#[repr(C)]
-#[derive(Clone, Copy)]
-pub struct RunResult {
-    pub number: u32,
-    pub place: Place,
-}
-
-// struct sk_reach_result
-#[repr(C)]
-#[derive(Clone, Copy)]
-pub struct ReachResult {
-    pub number: u32,
-    pub sources: [u32; 32],
-}
-
-// struct sk_answer
-#[repr(C)]
-#[derive(Clone, Copy)]
-pub struct QuestionResult {
-    pub number: u32,
-    pub yes: u32,
-}
-
-// struct sk_sheet_result
-#[repr(C)]
-#[derive(Clone, Copy)]
-pub struct SheetResult {
-    pub number: u32,
-    pub ticks: [u32; 8],
-    pub silence: [u32; 8],
-}
+use policy::{MEMORY, Policy};
 
 // A program compares it with the header that it was compiled with.
 #[unsafe(no_mangle)]
@@ -94,44 +55,73 @@ pub extern "C" fn sk_sound(policy: Policy) -> u32
     u32::from(sound::sound(&policy))
 }
 
-// With the place that a refused Start or Run returns.
-fn run_result(answer: Result<Place, Refused>, kept: Place) -> RunResult
-    ensures { result ≡ run_result kept answer }
+// The three operations lend the record, and what is lent is copied first, 436 bytes. So each tests memory's length before it hands the record on: a call that 9
+// refuses copies nothing.
+fn started(policy: Policy, memory: &mut [u8]) -> RunResult
+    ensures value { result ≡ run_result start_place (start_answer (under_policy policy) memory.old) }
+    ensures place { result.place ≡ start_place }
+    ensures memory_after { memory.new ≡ after_start (under_policy policy) memory.old }
 {
-    match answer {
-        Ok(place) => RunResult { number: 0, place },
-        Err(refused) => RunResult {
-            number: u32::from(refused),
-            place: kept,
-        },
-    }
+    answers::start(&policy, memory)
 }
 
+#[tactic(auto, unfolding(calls::specs::Start::start_outcome, calls::specs::Start::start_answer, calls::specs::Start::after_start))]
 #[unsafe(no_mangle)]
 pub extern "C" fn sk_start(policy: Policy, memory: &mut [u8]) -> RunResult
     ensures value { result ≡ run_result start_place (start_answer (under_policy policy) memory.old) }
+    ensures place { result.place ≡ start_place }
     ensures memory_after { memory.new ≡ after_start (under_policy policy) memory.old }
 {
-    run_result(kernel::start(&policy, memory), kernel::START)
+    if memory.len() != MEMORY {
+        return RunResult {
+            number: u32::from(Refused::WrongMemory),
+            place: START,
+        };
+    }
+    started(policy, memory)
 }
 
+fn pended(policy: Policy, memory: &mut [u8], partition: u32, line: u32) -> u32
+    ensures value { result ≡ outcome_number (pend_outcome (under_policy policy) memory.old partition line) }
+    ensures memory_after { memory.new ≡ after_pend (under_policy policy) memory.old partition line }
+{
+    answers::pend(&policy, memory, partition, line)
+}
+
+#[tactic(auto, unfolding(calls::specs::Pend::pend_outcome, calls::specs::Pend::after_pend))]
 #[unsafe(no_mangle)]
 pub extern "C" fn sk_pend(policy: Policy, memory: &mut [u8], partition: u32, line: u32) -> u32
     ensures value { result ≡ outcome_number (pend_outcome (under_policy policy) memory.old partition line) }
     ensures memory_after { memory.new ≡ after_pend (under_policy policy) memory.old partition line }
 {
-    match kernel::pend(&policy, memory, partition, line) {
-        Ok(()) => 0,
-        Err(refused) => u32::from(refused),
+    if memory.len() != MEMORY {
+        return u32::from(Refused::WrongMemory);
     }
+    pended(policy, memory, partition, line)
 }
 
+fn ran(policy: Policy, memory: &mut [u8], place: Place, ticks: u32) -> RunResult
+    ensures value { result ≡ run_result place (run_answer (under_policy policy) (state_of memory.old place) ticks) }
+    ensures place { result.place ≡ (after_run (under_policy policy) (state_of memory.old place) ticks).place }
+    ensures memory_after { memory.new ≡ (after_run (under_policy policy) (state_of memory.old place) ticks).memory }
+{
+    answers::run(&policy, memory, place, ticks)
+}
+
+#[tactic(auto, unfolding(calls::specs::Run::run_outcome, calls::specs::Run::run_answer, calls::specs::Run::after_run))]
 #[unsafe(no_mangle)]
 pub extern "C" fn sk_run(policy: Policy, memory: &mut [u8], place: Place, ticks: u32) -> RunResult
     ensures value { result ≡ run_result place (run_answer (under_policy policy) (state_of memory.old place) ticks) }
+    ensures place { result.place ≡ (after_run (under_policy policy) (state_of memory.old place) ticks).place }
     ensures memory_after { memory.new ≡ (after_run (under_policy policy) (state_of memory.old place) ticks).memory }
 {
-    run_result(kernel::run(&policy, memory, place, ticks), place)
+    if memory.len() != MEMORY {
+        return RunResult {
+            number: u32::from(Refused::WrongMemory),
+            place,
+        };
+    }
+    ran(policy, memory, place, ticks)
 }
 
 #[unsafe(no_mangle)]
@@ -151,16 +141,7 @@ pub extern "C" fn sk_reach(policy: Policy) -> ReachResult
 pub extern "C" fn sk_can_reach(policy: Policy, from: u32, to: u32) -> QuestionResult
     ensures { result ≡ question_result (under_policy policy) from to }
 {
-    match reach::can_reach(&policy, from, to) {
-        Ok(yes) => QuestionResult {
-            number: 0,
-            yes: u32::from(yes),
-        },
-        Err(why) => QuestionResult {
-            number: u32::from(why),
-            yes: 0,
-        },
-    }
+    answers::query(&policy, from, to)
 }
 
 #[unsafe(no_mangle)]

@@ -1,31 +1,36 @@
 // A block of a manual, of the kind that its first line names.
-use crate::answers::{Answer, read};
 use crate::program::try_lines;
+use crate::reading::{Answer, read};
+use script::{after_fields, number_in, word};
+use std::alloc::{AllocError, Global};
 use std::convert::AsSlice;
 use std::io;
 
-// A block's number in its manual and that of the line of its first fence, that line, the lines up to the next fence, and
+// A block's number in its manual and that of the line of its first fence, that line, the text up to the next fence, and
 // whether that is a bare one.
 #[derive(Clone, Copy)]
-pub(crate) struct Block<'a, 'p> {
+pub(crate) struct Block<'a> {
     pub number: u32,
-    pub line: usize,
-    pub fence: &'p str,
-    pub lines: &'a [&'p str],
+    pub line: u32,
+    pub fence: &'a [u8],
+    pub text: &'a [u8],
     pub is_closed: bool,
 }
 
-impl<'p> Block<'_, 'p> {
-    // What stands in its first line behind the fence.
-    fn info(&self) -> &'p str {
-        let line = self.fence.trim_end_matches('\n');
-        line.strip_prefix("```").unwrap_or_default()
+// The words of a line; several spaces part them as one does.
+pub(crate) fn words_of<'a>(alloc: Global, line: &'a [u8]) -> Result<Vec<&'a [u8]>, AllocError> {
+    let mut words = Vec::new(alloc);
+    for (k, word) in line.split(|b| *b == b' ').enumerate() {
+        if (k == 0) | !word.is_empty() {
+            words.push(word)?;
+        }
     }
+    Ok(words)
 }
 
 // Whether a text is what a report writes into a buffer.
 fn is_written<B: AsSlice<u8> + Drop, F: FnOnce(&mut B) -> usize>(
-    text: &str,
+    text: &[u8],
     mut out: B,
     report: F,
 ) -> bool
@@ -34,80 +39,118 @@ fn is_written<B: AsSlice<u8> + Drop, F: FnOnce(&mut B) -> usize>(
     let n = report(&mut out);
     out.as_slice()
         .get(..n)
-        .is_some_and(|written| written == text.as_bytes())
+        .is_some_and(|written| written == text)
 }
 
-// The text of a policy block, how often it is repeated, and what reading it must answer: the block's first line has the
-// number and the line, after `cut` where the text's last line end is left off, and after `times` and a count.
-fn parse_policy<'a>(words: &[&str], text: &'a str) -> Option<(&'a str, usize, Answer)> {
-    let (text, times, number, line) = match *words {
-        ["policy", number, line] => (text, 1, number, line),
-        ["policy", "cut", number, line] => (text.strip_suffix('\n')?, 1, number, line),
-        ["policy", "times", count, number, line] => (text, count.parse().ok()?, number, line),
-        _ => return None,
-    };
-    Some((text, times, Answer::parse(number, line)?))
+// A reach block: the report, or after two words on the block's first line the answer to what they ask.
+fn is_reach(policy: &[u8], block: &Block) -> bool {
+    if block.fence == b"```reach".as_slice() {
+        return is_written(
+            block.text,
+            [0u8; 3424],
+            |out| reaching::report_on(policy, out),
+        );
+    }
+    let from = word(block.fence, 1);
+    let to = word(block.fence, 2);
+    if (16 < from.len()) | (16 < to.len()) | !after_fields(block.fence, 3, b' ').is_empty() {
+        return false;
+    }
+    let mut asked = [0u8; 34];
+    let n = reaching::put_words(&mut asked, from, to);
+    is_written(
+        block.text,
+        [0u8; 3424],
+        |out| reaching::answer_on(policy, &asked[..n], out),
+    )
 }
 
-// The line at which a block is wrong about the last accepted text, if it is.
-fn wrong_line<R: Print + AllocGlobal>(
-    rt: &R,
-    block: &Block,
-    words: &[&str],
-    base: &[&str],
-) -> io::Result<Option<usize>> {
-    let alloc = rt.alloc();
-    let text = block.lines.concat(alloc)?;
-    let whole = base.concat(alloc)?;
-    let policy = whole.as_bytes();
-    let is_right = match *words {
-        ["report"] => is_written(&text, [0u8; 640], |out| checking::report_on(policy, out)),
-        ["reach"] => is_written(&text, [0u8; 3424], |out| reaching::report_on(policy, out)),
-        ["reach", from, to] => {
-            let asked = format!(in alloc; "{from}\t{to}\n")?;
-            is_written(
-                &text,
-                [0u8; 3424],
-                |out| reaching::answer_on(policy, asked.as_bytes(), out),
-            )
+// Whether a block is right about a policy text, and what is shown of it where it is not.
+#[derive(Clone, Copy)]
+pub(crate) enum Verdict {
+    Right,
+    Wrong(u32),
+    TooLong,
+}
+
+impl Verdict {
+    pub(crate) fn of(is_right: bool, line: u32) -> Verdict {
+        if is_right {
+            Verdict::Right
+        } else {
+            Verdict::Wrong(line)
         }
-        ["sheet"] => is_written(&text, [0u8; 204], |out| sheeting::sheet_on(policy, out)),
-        ["lines"] | ["program"] => return try_lines(rt, base, block),
-        _ => false,
-    };
-    Ok((!is_right).then_some(block.line))
+    }
 }
 
-// Checks a block, and answers what the blocks after it are about: the lines of the last policy block that is accepted.
-pub(crate) fn check_block<'a, 'p, R: Print + AllocGlobal>(
+// A text as often as that, as far as it matters: what is longer than the longest text is read alike, however long it is.
+fn repeated(alloc: Global, text: &[u8], times: u32) -> Result<Vec<u8>, AllocError> {
+    let most = 20000usize
+        .checked_div(text.len())
+        .map_or(0, |n| n.saturating_add(1));
+    text.repeat(alloc, most.min(times as usize))
+}
+
+// A policy block: its first line has the number and the line that reading its text must answer, after `cut` where the text's
+// last line end is left off, and after `times` and a count where it is repeated. Answers whether the text is accepted.
+fn check_policy<R: Print + AllocGlobal>(rt: &R, block: &Block) -> io::Result<(Verdict, bool)> {
+    let cut = block.text.split_last().map(|(_, text)| text);
+    let fence = block.fence;
+    let (text, times, k) = match word(fence, 1) {
+        b"cut" => (cut.unwrap_or_default(), 1, 2),
+        b"times" => (block.text, number_in(fence, 2), 3),
+        _ => (block.text, 1, 1),
+    };
+    let found = read(&repeated(rt.alloc(), text, times)?);
+    let expected = Answer {
+        number: number_in(fence, k),
+        line: number_in(fence, k + 1),
+    };
+    print!(rt;
+        "expected {} {}, found {} {}, ",
+        expected.number, expected.line, found.number, found.line
+    )?;
+    let is_right = (found == expected) & after_fields(fence, k + 2, b' ').is_empty();
+    Ok((Verdict::of(is_right, block.line), found.number == 0))
+}
+
+// Whether a block of another kind is right about the last accepted text.
+fn verdict_on<R: Print + AllocGlobal>(rt: &R, block: &Block, policy: &[u8]) -> io::Result<Verdict> {
+    let text = block.text;
+    let is_right = match block.fence {
+        b"```report" => is_written(text, [0u8; 640], |out| checking::report_on(policy, out)),
+        b"```sheet" => is_written(text, [0u8; 204], |out| sheeting::sheet_on(policy, out)),
+        b"```lines" | b"```program" => return try_lines(rt, policy, block),
+        _ => (word(block.fence, 0) == b"```reach".as_slice()) & is_reach(policy, block),
+    };
+    Ok(Verdict::of(is_right, block.line))
+}
+
+// Checks a block, and answers what the blocks after it are about: the text of the last policy block that is accepted.
+pub(crate) fn check_block<'a, R: Print + AllocGlobal>(
     rt: &R,
-    block: &Block<'a, 'p>,
-    base: &'a [&'p str],
-) -> io::Result<&'a [&'p str]> {
-    let alloc = rt.alloc();
-    let words: Vec<&str> = block.info().split(' ').collect(alloc)?;
-    let text = block.lines.concat(alloc)?;
+    block: &Block<'a>,
+    base: &'a [u8],
+) -> io::Result<&'a [u8]> {
+    let kind = word(block.fence, 0);
     let mut next = base;
-    let kind = words.first().copied().unwrap_or_default();
-    print!(rt; "{kind} {}: ", block.number)?;
-    let wrong = if !block.is_closed {
-        Some(block.line)
-    } else if let Some((text, times, expected)) = parse_policy(&words, &text) {
-        let (found, _) = read(text.repeat(alloc, times)?.as_bytes());
-        print!(rt;
-            "expected {} {}, found {} {}, ",
-            expected.number, expected.line, found.number, found.line
-        )?;
-        if found.number == 0 {
-            next = block.lines;
+    rt.write_all(kind.get(3..).unwrap_or_default())?;
+    print!(rt; " {}: ", block.number)?;
+    let verdict = if !block.is_closed {
+        Verdict::Wrong(block.line)
+    } else if kind == b"```policy".as_slice() {
+        let (verdict, is_accepted) = check_policy(rt, block)?;
+        if is_accepted {
+            next = block.text;
         }
-        (found != expected).then_some(block.line)
+        verdict
     } else {
-        wrong_line(rt, block, &words, base)?
+        verdict_on(rt, block, base)?
     };
-    match wrong {
-        None => println!(rt; "ok")?,
-        Some(line) => println!(rt; "WRONG at line {line}")?,
+    match verdict {
+        Verdict::Right => println!(rt; "ok")?,
+        Verdict::Wrong(line) => println!(rt; "WRONG at line {line}")?,
+        Verdict::TooLong => println!(rt; "too long: WRONG")?,
     }
     Ok(next)
 }

@@ -3,10 +3,10 @@
 // ones.
 #![tactic(auto)]
 
-mod answers;
 mod block;
 mod page;
 mod program;
+mod reading;
 mod row;
 mod step;
 

@@ -4,13 +4,15 @@ use policy::Policy;
 // A field of the record by its number in tests/scenarios.py, an entry of it, and the value that this gets.
 #[derive(Clone, Copy)]
 pub(crate) struct Change {
-    pub field: u8,
+    pub field: u32,
     pub index: usize,
     pub value: u32,
 }
 
+// An index past the end counts from the first entry on again.
 fn set<T: Copy>(entries: &mut [T], index: usize, value: T) {
-    if let Some(entry) = entries.get_mut(index) {
+    let at = index.checked_rem(entries.len()).unwrap_or_default();
+    if let Some(entry) = entries.get_mut(at) {
         *entry = value;
     }
 }

@@ -1,6 +1,7 @@
-// The steps of a scenario.
+// The steps of a scenario. A line's first letter says which it is; what number is not there is NONE.
 use crate::record::Change;
 use machine::Place;
+use script::number_in;
 
 // What is asked, and shown with its answer.
 #[derive(Clone, Copy)]
@@ -8,7 +9,7 @@ pub(crate) enum Call {
     Start,
     Run(u32),
     Pend(u32, u32),
-    Look(usize, usize),
+    Look(u32, u32),
     Masks,
     Query(u32, u32),
     Sheet,
@@ -19,50 +20,41 @@ pub(crate) enum Step {
     At(Place),
     // Where the bytes of the next line go, if that has bytes.
     Write(usize),
-    Bytes,
     Fill(usize),
     Change(Change),
     Call(Call),
     End,
 }
 
-impl Call {
-    fn parse(words: &[&str]) -> Option<Call> {
-        match *words {
-            ["start"] => Some(Call::Start),
-            ["run", ticks] => Some(Call::Run(ticks.parse().ok()?)),
-            ["pend", partition, line] => Some(Call::Pend(
-                partition.parse().ok()?,
-                line.parse().ok()?,
-            )),
-            ["look", at, count] => Some(Call::Look(at.parse().ok()?, count.parse().ok()?)),
-            ["masks"] => Some(Call::Masks),
-            ["query", from, to] => Some(Call::Query(from.parse().ok()?, to.parse().ok()?)),
-            ["ticks"] => Some(Call::Sheet),
-            _ => None,
-        }
-    }
-}
-
 impl Step {
-    // The step that the words of a line say, where they say one.
-    pub(crate) fn parse(words: &[&str]) -> Option<Step> {
-        match *words {
-            ["at", slot, used, count] => Some(Step::At(Place {
-                slot: slot.parse().ok()?,
-                used: used.parse().ok()?,
-                count: count.parse().ok()?,
-            })),
-            ["write", at] => Some(Step::Write(at.parse().ok()?)),
-            ["fill", k] => Some(Step::Fill(k.parse().ok()?)),
-            ["change", field, index, value] => Some(Step::Change(Change {
-                field: field.parse().ok()?,
-                index: index.parse().ok()?,
-                value: value.parse().ok()?,
-            })),
-            ["end"] => Some(Step::End),
-            [first, ..] if first.parse::<u8>().is_ok() => Some(Step::Bytes),
-            _ => Some(Step::Call(Call::parse(words)?)),
-        }
+    // The step that a line says, where it says one.
+    pub(crate) fn parse(line: &[u8]) -> Option<Step> {
+        let x = number_in(line, 1);
+        let y = number_in(line, 2);
+        let z = number_in(line, 3);
+        let step = match line.first()? {
+            b's' => Step::Call(Call::Start),
+            b'r' => Step::Call(Call::Run(x)),
+            b'p' => Step::Call(Call::Pend(x, y)),
+            b'l' => Step::Call(Call::Look(x, y)),
+            b'm' => Step::Call(Call::Masks),
+            b'q' => Step::Call(Call::Query(x, y)),
+            b't' => Step::Call(Call::Sheet),
+            b'a' => Step::At(Place {
+                slot: x,
+                used: y,
+                count: z,
+            }),
+            b'w' => Step::Write(x as usize),
+            b'f' => Step::Fill(x as usize),
+            b'c' => Step::Change(Change {
+                field: x,
+                index: y as usize,
+                value: z,
+            }),
+            b'e' => Step::End,
+            _ => return None,
+        };
+        Some(step)
     }
 }

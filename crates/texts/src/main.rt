@@ -2,8 +2,11 @@
 // A case is a name filled up with spaces to 40 bytes, a length in 7 digits, a line end, and then the text.
 #![tactic(auto)]
 
-use script::Lines;
-use std::{fs, io};
+use script::{FILE, Lines, load, number_in, word};
+use std::io;
+
+// So many cases are read at most.
+const CASES: u32 = 1000;
 
 // The number and the line that reading a text answers.
 fn answer_to(text: &[u8]) -> (u32, u32) {
@@ -13,23 +16,21 @@ fn answer_to(text: &[u8]) -> (u32, u32) {
     }
 }
 
-// A case's name, and the length of its text.
-fn parse_header(header: &str) -> Option<(&str, usize)> {
-    let (name, length) = header.split_once(' ')?;
-    Some((name, length.trim_start().parse().ok()?))
-}
-
 fn read_cases(rt: &impl Print, file: &[u8]) -> io::Result<()> {
     let mut lines = Lines { rest: file };
-    while let Some(header) = lines.next() {
-        let (name, length) = parse_header(header).ok_or(io::ErrorKind::InvalidData)?;
-        let (number, line) = answer_to(lines.bytes(length));
-        println!(rt; "{name}\t{number}\t{line}")?;
+    for _ in 0..CASES {
+        let Some(header) = lines.next() else {
+            break;
+        };
+        let (number, line) = answer_to(lines.bytes(number_in(header, 1) as usize));
+        rt.write_all(word(header, 0))?;
+        println!(rt; "\t{number}\t{line}")?;
     }
     Ok(())
 }
 
 fn main(rt: HostRuntime) -> io::Result<()> {
-    let file = fs::read(&rt, "cases")?;
-    read_cases(&rt, &file)
+    let mut space = vec![in rt.alloc(); 0; FILE]?;
+    let n = load(&rt, b"cases", &mut space)?;
+    read_cases(&rt, &space[..n])
 }

@@ -12,11 +12,11 @@ use Rattle.calls.specs.Under.{Under}
 use Rattle.reach.specs.Answers.{reach_answer, can_reach_answer, rows_shown, yes_shown}
 use Rattle.sheet.specs.declared.Sheet.{Sheet}
 use Rattle.sheet.specs.Answer.{sheet_answer}
-use Rattle.boundary.specs.declared.ReachResult.{ReachResult}
-use Rattle.boundary.specs.declared.ReadResult.{ReadResult}
-use Rattle.boundary.specs.declared.QuestionResult.{QuestionResult}
-use Rattle.boundary.specs.declared.RunResult.{RunResult}
-use Rattle.boundary.specs.declared.SheetResult.{SheetResult}
+use Rattle.answers.specs.declared.results.ReachResult.{ReachResult}
+use Rattle.answers.specs.declared.results.ReadResult.{ReadResult}
+use Rattle.answers.specs.declared.results.QuestionResult.{QuestionResult}
+use Rattle.answers.specs.declared.results.RunResult.{RunResult}
+use Rattle.answers.specs.declared.results.SheetResult.{SheetResult}
 
 -- The number, the line and the record of an answer.
 pub record Tells (r : ReadResult) (a : Answer) : Type 0 where

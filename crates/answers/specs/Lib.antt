@@ -1,0 +1,2 @@
+-- What each call answers.
+pub mod Results
