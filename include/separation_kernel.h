@@ -192,7 +192,7 @@ SK_LAYOUT(sk_sheet_result, sizeof(struct sk_sheet_result) == 68 && SK_AT(sk_shee
 /* The stack that a call takes below its caller's frame, at most, in bytes: the record among its arguments (448), its return address, all frames below it, the
  * 128 bytes that the x86-64 ABI lets a function use under its frame, and 256 for memcpy and memset, the only functions that the archive asks for. They are
  * the C library's or the firmware's; so is what a dynamic linker takes to find them at the first call. tests/check-archive computes the numbers from the
- * archive, which has no recursion and no call through a pointer. Its code and constants are 17,472 bytes. It uses the general and the xmm registers (SSE2),
+ * archive, which has no recursion and no call through a pointer. Its code and constants are 17,088 bytes. It uses the general and the xmm registers (SSE2),
  * so an interrupt handler that calls it must save both. */
 #define SK_STACK_VERSION 192
 #define SK_STACK_READ 2752
