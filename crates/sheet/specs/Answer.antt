@@ -21,6 +21,6 @@ sheet_for limits v =
       silence = for_each limits v (silence v);
     }
 
--- "Refused: 10". What a refused one shows is the boundary's.
+-- "Refused: 10". What a refused one shows is said in `answers`.
 unfoldable pub sheet_answer : Under → Result Sheet NoAnswer
 sheet_answer u = where_sound u.sound (sheet_for u.limits u.view)
