@@ -1,6 +1,6 @@
 // The kernel for programs in C: each function is a thin call, with the same equation and no `requires`.
-// include/separation_kernel.h declares them. sk_read, sk_reach and sk_sheet make their answer themselves, as `answers` makes it: by a call of `answers` it would
-// be copied once more, which takes up to 432 bytes of stack (b).
+// include/separation_kernel.h declares them. sk_read, sk_reach and sk_sheet make their answer themselves, as `answers` makes it: by a call of it the answer
+// would be copied once more, which takes up to 432 bytes of stack (b).
 #![tactic(auto)]
 
 ghost use Rattle.std.specs.Prelude.{◌≡◌, cond};

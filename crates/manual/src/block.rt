@@ -17,6 +17,19 @@ pub(crate) struct Block<'a> {
     pub is_closed: bool,
 }
 
+impl<'a> Block<'a> {
+    // A block whose end is not known yet: its text is all that stands behind its first fence.
+    pub(crate) fn opened(number: u32, line: u32, fence: &'a [u8], text: &'a [u8]) -> Block<'a> {
+        Block {
+            number,
+            line,
+            fence,
+            text,
+            is_closed: false,
+        }
+    }
+}
+
 // The words of a line; several spaces part them as one does.
 pub(crate) fn words_of<'a>(alloc: Global, line: &'a [u8]) -> Result<Vec<&'a [u8]>, AllocError> {
     let mut words = Vec::new(alloc);

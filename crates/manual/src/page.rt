@@ -34,13 +34,7 @@ fn check_lines<R: Print + AllocGlobal>(rt: &R, page: &[u8]) -> io::Result<()> {
         open = match open {
             None => {
                 blocks = blocks.wrapping_add(1);
-                Some(Block {
-                    number: blocks,
-                    line,
-                    fence,
-                    text: lines.rest,
-                    is_closed: false,
-                })
+                Some(Block::opened(blocks, line, fence, lines.rest))
             }
             Some(block) => {
                 let block = Block {

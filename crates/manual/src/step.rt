@@ -42,6 +42,7 @@ impl<'a> Check<'a> {
         let x = number_in(line, 1);
         let number = number_in(line, 2);
         let named = number_in(line, 3);
+        let answer = |line| Answer { number, line };
         match words {
             [b"is", ..] => Some(Check::Memory(x as usize, words.get(2..).unwrap_or_default())),
             [b"place", _, _, count] => Some(Check::Place(place_of(line, count)?)),
@@ -49,32 +50,12 @@ impl<'a> Check<'a> {
             [b"line", ..] => {
                 let named = if matches!(number, 2..=5) { x } else { 0 };
                 let change = Change::Replace(after_fields(line, 3, b' '));
-                Some(Check::Changed(
-                    x,
-                    change,
-                    Answer {
-                        number,
-                        line: named,
-                    },
-                ))
+                Some(Check::Changed(x, change, answer(named)))
             }
-            [b"without", _, _, _] => {
-                let answer = Answer {
-                    number,
-                    line: named,
-                };
-                Some(Check::Changed(x, Change::Remove, answer))
-            }
+            [b"without", _, _, _] => Some(Check::Changed(x, Change::Remove, answer(named))),
             [b"with", ..] => {
                 let change = Change::Insert(after_fields(line, 4, b' '));
-                Some(Check::Changed(
-                    x,
-                    change,
-                    Answer {
-                        number,
-                        line: named,
-                    },
-                ))
+                Some(Check::Changed(x, change, answer(named)))
             }
             _ => None,
         }
